@@ -1,0 +1,11 @@
+# README.md says what each target prints.
+.PHONY: run test bench
+
+run:
+	@echo "run: nothing yet; the listing program comes with the calibrator"
+
+test:
+	@tools/test
+
+bench:
+	@echo "bench: nothing yet; the first measured operation is one thermometer"

@@ -1,0 +1,12 @@
+//! With the feature `proved`, links the proved functions that `rt staticlib comparison` has built.
+
+fn main() {
+    println!("cargo:rerun-if-changed=build.rs");
+    if std::env::var_os("CARGO_FEATURE_PROVED").is_none() {
+        return;
+    }
+    let folder = std::env::var("CARGO_MANIFEST_DIR").expect("cargo sets it");
+    println!("cargo:rustc-link-search=native={folder}/../target/staticlib");
+    println!("cargo:rustc-link-lib=static=comparison");
+    println!("cargo:rerun-if-changed=../target/staticlib/libcomparison.a");
+}

@@ -1,0 +1,301 @@
+//! Another implementation against this one, byte for byte.
+//!
+//! Each function compares one case of a seed and takes the other implementation as a closure, so
+//! that a kind of `check::run::KINDS` can be made of each part as soon as the other has it.
+
+use std::fmt::Debug;
+
+use crate::acceptance::{accepted_samples, AcceptedSamples};
+use crate::bytes::{field, i16_at, i32_at, layout_is_right, u16_at, u32_at};
+use crate::calibrator::judge;
+use crate::check::lists::{outcomes, Outcome};
+use crate::generator::listings::listing_input;
+use crate::generator::lists::{feed_list, FeedList};
+use crate::generator::numbers::{
+    division_pairs, field_case, layout_case, number_bytes, rounding_pairs,
+};
+use crate::generator::random::case_seed;
+use crate::generator::random_tables::{accepted_table, table_bytes};
+use crate::generator::table_neighbours::table_neighbours;
+use crate::generator::tables::TableValues;
+use crate::generator::thermometers::{thermometer_input, ThermometerInput};
+use crate::generator::twins::alike_twin;
+use crate::listing::listing;
+use crate::record::ScanRecord;
+use crate::rounding::{floor, r};
+use crate::table::open;
+use crate::thermometer::one_thermometer;
+
+fn same<T: PartialEq + Debug>(about: impl Debug, other: T, this: T) -> Result<(), String> {
+    if other == this {
+        Ok(())
+    } else {
+        Err(format!("{about:?}: {other:?}, expected {this:?}"))
+    }
+}
+
+/// The floor of a / b, b above 0.
+pub fn divisions(seed: u64, other: impl Fn(i64, i64) -> i64) -> Result<(), String> {
+    for (a, b) in division_pairs(seed, 200) {
+        let this = floor(a as i128, b as i128);
+        same(("floor", a, b), other(a, b) as i128, this)?;
+    }
+    Ok(())
+}
+
+/// r(a, b), b above 0, for every a and b.
+pub fn roundings(seed: u64, other: impl Fn(i64, i64) -> i64) -> Result<(), String> {
+    let pairs = rounding_pairs(seed, 200);
+    for (a, b) in pairs.into_iter().chain(division_pairs(seed, 200)) {
+        let this = r(a as i128, b as i128);
+        same(("r", a, b), other(a, b) as i128, this)?;
+    }
+    Ok(())
+}
+
+/// The u16, i16, u32 and i32 at a position of some bytes.
+pub fn numbers(
+    seed: u64,
+    other: impl Fn(&[u8], usize) -> (u16, i16, u32, i32),
+) -> Result<(), String> {
+    let bytes = number_bytes(seed);
+    for at in 0..5 {
+        let this = (
+            u16_at(&bytes, at),
+            i16_at(&bytes, at),
+            u32_at(&bytes, at),
+            i32_at(&bytes, at),
+        );
+        same((bytes, at), other(&bytes, at), this)?;
+    }
+    Ok(())
+}
+
+/// The field with a tag and length at a position: the value, or none.
+pub fn fields(
+    seed: u64,
+    other: impl for<'a> Fn(&'a [u8], usize, u8, usize) -> Option<&'a [u8]>,
+) -> Result<(), String> {
+    let case = field_case(seed);
+    let (bytes, at, tag, length) = (&case.bytes, case.at, case.tag, case.length);
+    let this = field(bytes, at, tag, length);
+    same(&case, other(bytes, at, tag, length), this)
+}
+
+/// Whether all tags and lengths of a layout are right.
+pub fn layouts(seed: u64, other: impl Fn(&[u8], &[(u8, usize)]) -> bool) -> Result<(), String> {
+    let (bytes, layout) = layout_case(seed);
+    let this = layout_is_right(&bytes, &layout);
+    same((&layout, bytes.len()), other(&bytes, &layout), this)
+}
+
+/// Opening a table: 0, or the number of the refusal.
+pub fn table(seed: u64, other: impl Fn(&[u8]) -> u8) -> Result<(), String> {
+    let bytes = table_bytes(seed);
+    let this = open(&bytes).err().unwrap_or(0);
+    same("table", other(&bytes), this)
+}
+
+/// Opening every neighbour of the bench table (seed 0) or of the accepted table of a seed.
+pub fn all_table_neighbours(seed: u64, other: impl Fn(&[u8]) -> u8) -> Result<(), String> {
+    let base = if seed == 0 {
+        TableValues::bench()
+    } else {
+        accepted_table(seed)
+    };
+    for neighbour in table_neighbours(&base) {
+        let this = open(&neighbour.bytes).err().unwrap_or(0);
+        same(&neighbour.description, other(&neighbour.bytes), this)?;
+    }
+    Ok(())
+}
+
+/// The operation One thermometer.
+pub fn thermometer(
+    seed: u64,
+    other: impl Fn(&ThermometerInput) -> Result<i32, u8>,
+) -> Result<(), String> {
+    let input = thermometer_input(seed);
+    let this = one_thermometer(&input.reading(), &input.coefficients());
+    same(input, other(&input).map(|t| t as i128), this)
+}
+
+/// The accepted samples of each accepted record of a list, given the bytes of table and record.
+pub fn samples(seed: u64, other: impl Fn(&[u8], &[u8]) -> AcceptedSamples) -> Result<(), String> {
+    let list = feed_list(seed);
+    let table = open(&list.table).expect("a list has an accepted table");
+    let mut roll: Vec<ScanRecord> = Vec::new();
+    for (index, feed) in list.feeds.iter().enumerate() {
+        if let Ok(record) = judge(&roll, &feed.record, feed.buffer.len()) {
+            let this = accepted_samples(&table, &record);
+            let about = format!("feed {} of the list", index + 1);
+            same(about, other(&list.table, &feed.record), this)?;
+            roll.push(record);
+        }
+    }
+    Ok(())
+}
+
+fn same_outcomes(about: &str, other: &[Outcome], this: &[Outcome]) -> Result<(), String> {
+    same(format!("{about}, feeds"), other.len(), this.len())?;
+    for (index, (other, this)) in other.iter().zip(this).enumerate() {
+        let about = format!("{about}, feed {}", index + 1);
+        same(&about, other.answer, this.answer)?;
+        same(&about, other.buffer.len(), this.buffer.len())?;
+        let differing = (0..this.buffer.len()).find(|at| other.buffer[*at] != this.buffer[*at]);
+        if let Some(at) = differing {
+            let about = format!("{about}, byte {at} of the buffer");
+            same(about, other.buffer[at], this.buffer[at])?;
+        }
+    }
+    Ok(())
+}
+
+/// The answers and buffers of a list of feeds, and of its alike twin.
+pub fn feeds(seed: u64, other: impl Fn(&FeedList) -> Vec<Outcome>) -> Result<(), String> {
+    let list = feed_list(seed);
+    same_outcomes("the list", &other(&list), &outcomes(&list))?;
+    let twin = alike_twin(&list, case_seed(seed, 1));
+    same_outcomes("its twin", &other(&twin), &outcomes(&twin))
+}
+
+/// The printed text of the listing program.
+pub fn listings(seed: u64, other: impl Fn(Option<&[u8]>, &[u8]) -> String) -> Result<(), String> {
+    let input = listing_input(seed);
+    let table = input.table.as_deref();
+    let this = listing(table, &input.input);
+    same("listing", other(table, &input.input), this)
+}
+
+#[cfg(test)]
+mod tests {
+    use super::*;
+
+    /// Whether a comparison fails at one of the first seeds.
+    fn finds(comparison: impl Fn(u64) -> Result<(), String>, seeds: u64) -> bool {
+        (0..seeds).any(|seed| comparison(seed).is_err())
+    }
+
+    #[test]
+    fn divisions_differ_from_cutting_towards_zero() {
+        let right = |a: i64, b: i64| a.div_euclid(b);
+        assert!(!finds(|seed| divisions(seed, right), 20));
+        assert!(finds(|seed| divisions(seed, |a, b| a / b), 20));
+    }
+
+    #[test]
+    fn roundings_differ_from_halves_down_and_halves_away_from_zero() {
+        let wide = |a: i64, b: i64, less: i128| {
+            ((2 * a as i128 + b as i128 - less).div_euclid(2 * b as i128)) as i64
+        };
+        let right = |a: i64, b: i64| wide(a, b, 0);
+        assert!(!finds(|seed| roundings(seed, right), 20));
+        let down = |a: i64, b: i64| wide(a, b, 1);
+        assert!(finds(|seed| roundings(seed, down), 20));
+        let away = |a: i64, b: i64| {
+            let size = (2 * a.unsigned_abs() as i128 + b as i128) / (2 * b as i128);
+            (size * a.signum() as i128) as i64
+        };
+        assert!(finds(|seed| roundings(seed, away), 20));
+    }
+
+    #[test]
+    fn number_readers_differ_in_order_and_sign() {
+        let right = |bytes: &[u8], at: usize| {
+            let two: [u8; 2] = bytes[at..at + 2].try_into().unwrap();
+            let four: [u8; 4] = bytes[at..at + 4].try_into().unwrap();
+            (
+                u16::from_be_bytes(two),
+                i16::from_be_bytes(two),
+                u32::from_be_bytes(four),
+                i32::from_be_bytes(four),
+            )
+        };
+        assert!(!finds(|seed| numbers(seed, right), 50));
+        let wrong = |bytes: &[u8], at: usize| {
+            let (first, second, third, fourth) = right(bytes, at);
+            (first.swap_bytes(), second, third, fourth)
+        };
+        assert!(finds(|seed| numbers(seed, wrong), 50));
+    }
+
+    #[test]
+    fn fields_and_layouts_differ_where_a_test_is_left_out() {
+        let no_tag = |bytes: &[u8], layout: &[(u8, usize)]| {
+            let mut other = bytes.to_vec();
+            if let (Some(first), Some((tag, _))) = (other.first_mut(), layout.first()) {
+                *first = *tag;
+            }
+            layout_is_right(&other, layout)
+        };
+        assert!(!finds(|seed| layouts(seed, layout_is_right), 200));
+        assert!(finds(|seed| layouts(seed, no_tag), 200));
+        fn longer(bytes: &[u8], at: usize, tag: u8, length: usize) -> Option<&[u8]> {
+            field(bytes, at, tag, length).map(|_| &bytes[at..at + length])
+        }
+        assert!(!finds(|seed| fields(seed, field), 200));
+        assert!(finds(|seed| fields(seed, longer), 200));
+    }
+
+    #[test]
+    fn tables_differ_where_every_table_is_accepted() {
+        let right = |bytes: &[u8]| open(bytes).err().unwrap_or(0);
+        assert!(!finds(|seed| table(seed, right), 50));
+        assert!(finds(|seed| table(seed, |_| 0), 50));
+        assert!(!finds(|seed| all_table_neighbours(seed, right), 1));
+        // A sum cut to eight bits.
+        let cut = |bytes: &[u8]| match right(bytes) {
+            3 if bytes[3..11].iter().fold(0u8, |sum, w| sum.wrapping_add(*w)) == 1 => 0,
+            answer => answer,
+        };
+        assert!(finds(|seed| all_table_neighbours(seed, cut), 1));
+    }
+
+    #[test]
+    fn thermometers_differ_by_one_unit() {
+        let right = |input: &ThermometerInput| {
+            one_thermometer(&input.reading(), &input.coefficients()).map(|t| t as i32)
+        };
+        assert!(!finds(|seed| thermometer(seed, right), 200));
+        let wrong = |input: &ThermometerInput| right(input).map(|t| (t + 1).min(245_760));
+        assert!(finds(|seed| thermometer(seed, wrong), 200));
+    }
+
+    #[test]
+    fn samples_differ_where_a_place_is_wrong() {
+        let right = |table: &[u8], record: &[u8]| {
+            accepted_samples(&open(table).unwrap(), &ScanRecord::read(record).unwrap())
+        };
+        assert!(!finds(|seed| samples(seed, right), 2));
+        let wrong = |table: &[u8], record: &[u8]| {
+            let mut samples = right(table, record);
+            for accepted in samples.cold.iter_mut().flatten() {
+                accepted.place = 0;
+            }
+            samples
+        };
+        assert!(finds(|seed| samples(seed, wrong), 2));
+    }
+
+    #[test]
+    fn feeds_differ_by_one_byte() {
+        assert!(!finds(|seed| feeds(seed, outcomes), 2));
+        let wrong = |list: &FeedList| {
+            let mut wrong = outcomes(list);
+            let last = wrong.iter_mut().rfind(|outcome| outcome.answer == 0);
+            if let Some(outcome) = last {
+                outcome.buffer[8_000] ^= 1;
+            }
+            wrong
+        };
+        assert!(finds(|seed| feeds(seed, wrong), 2));
+    }
+
+    #[test]
+    fn listings_differ_by_a_line_feed() {
+        assert!(!finds(|seed| listings(seed, listing), 10));
+        let wrong =
+            |table: Option<&[u8]>, input: &[u8]| listing(table, input).trim_end().to_string();
+        assert!(finds(|seed| listings(seed, wrong), 10));
+    }
+}

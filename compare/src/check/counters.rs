@@ -1,0 +1,211 @@
+//! Counters of what a run has met. A class that a whole run never met is a failure.
+
+use std::collections::BTreeMap;
+
+/// All classes, by group. Every one must be met in a run of the default size.
+pub const CLASSES: &[(&str, &[&str])] = &[
+    (
+        "division",
+        &["exact", "not exact", "negative", "half", "negative half"],
+    ),
+    ("table answer", &["accepted", "1", "2", "3"]),
+    ("thermometer answer", &["t", "8", "9", "10"]),
+    (
+        "thermometer edge",
+        &[
+            "M at F(t)",
+            "M one below F(t + 1)",
+            "M at lower end",
+            "M below lower end",
+            "M at upper end",
+            "M above upper end",
+            "count at offset",
+            "count below offset",
+            "PAM at offset",
+            "PAM below offset",
+            "8 and 9",
+            "9 and 10",
+        ],
+    ),
+    ("feed answer", &["accepted", "4", "5", "6", "7"]),
+    (
+        "two refusals",
+        &["4 and 7", "5 and 6", "5 and 7", "6 and 7"],
+    ),
+    ("record length", &["0", "1", "4628", "4630"]),
+    ("first number", &["0", "4294967295", "other"]),
+    (
+        "number ahead",
+        &["1", "2", "3", "4", "5", "6", "7", "8", "9", "more"],
+    ),
+    ("number behind", &["equal", "lower"]),
+    ("buffer", &["0", "8705", "8706", "8707", "longer"]),
+    (
+        "target readings",
+        &[
+            "rule refuses",
+            "at T_low",
+            "below T_low by one",
+            "at T_upp",
+            "above T_upp by one",
+            "difference dT",
+            "difference dT + 1",
+            "one rival differs",
+            "two rivals differ",
+            "three or more",
+            "least number met exactly",
+            "least number missed by one",
+            "accepted without weight",
+        ],
+    ),
+    ("good warm counts", &["0", "1", "2", "3", "4"]),
+    ("good cold counts", &["0", "1", "2", "3", "4"]),
+    (
+        "counts",
+        &[
+            "at low",
+            "one below low",
+            "at upp",
+            "one above upp",
+            "at difference",
+            "one beyond difference",
+        ],
+    ),
+    (
+        "lowest warm less highest cold",
+        &["below -1", "-1", "0", "1", "above 1"],
+    ),
+    ("bad side", &["warm only", "cold only", "both"]),
+    ("window age", &["0", "1", "2", "3", "4", "5", "6", "7"]),
+    (
+        "records in window",
+        &["1", "2", "3", "4", "5", "6", "7", "8"],
+    ),
+    ("scan value of", &["3 counts", "4 counts"]),
+    ("flag", &["0", "1", "2", "3", "4"]),
+    (
+        "thermometer percentage",
+        &["met exactly", "missed by one weight"],
+    ),
+    ("warm percentage", &["met exactly", "missed by one weight"]),
+    ("cold percentage", &["met exactly", "missed by one weight"]),
+    ("D with weights", &["negative", "0", "1", "above 1"]),
+    ("scene", &["delivered", "-1", "-2"]),
+    (
+        "x",
+        &[
+            "one count below 0",
+            "at 0",
+            "at 1",
+            "at 1.25",
+            "one count beyond 1.25",
+        ],
+    ),
+    (
+        "rounding of a scene",
+        &[
+            "half",
+            "half of a negative",
+            "within 1 of E",
+            "beyond 1 of E",
+        ],
+    ),
+    ("summary", &["0 delivered", "1 to 95", "96"]),
+    (
+        "restart",
+        &["products compared", "fewer records than before"],
+    ),
+    (
+        "twins",
+        &[
+            "lists compared",
+            "products compared",
+            "samples changed",
+            "refused feeds",
+        ],
+    ),
+    (
+        "listing",
+        &[
+            "empty input",
+            "short last record",
+            "table missing",
+            "table refused",
+            "scan line",
+            "refused line",
+        ],
+    ),
+];
+
+#[derive(Clone, Debug, Default)]
+pub struct Counters {
+    counts: BTreeMap<(&'static str, &'static str), u64>,
+}
+
+impl Counters {
+    pub fn new() -> Counters {
+        Counters::default()
+    }
+
+    /// Counts a class once more.
+    pub fn met(&mut self, group: &str, class: &str) {
+        self.met_times(group, class, 1);
+    }
+
+    /// Counts a class some times more. A class that is not listed is an error in the check.
+    pub fn met_times(&mut self, group: &str, class: &str, times: u64) {
+        let listed = CLASSES.iter().find(|(name, _)| *name == group);
+        let (group, classes) = listed.unwrap_or_else(|| panic!("no group {group}"));
+        let class = classes
+            .iter()
+            .find(|name| **name == class)
+            .unwrap_or_else(|| panic!("no class {class} in {group}"));
+        *self.counts.entry((group, class)).or_insert(0) += times;
+    }
+
+    pub fn count(&self, group: &'static str, class: &'static str) -> u64 {
+        self.counts.get(&(group, class)).copied().unwrap_or(0)
+    }
+
+    /// One line a group.
+    pub fn lines(&self) -> Vec<String> {
+        let line = |(group, classes): &(&'static str, &[&'static str])| {
+            let parts: Vec<String> = classes
+                .iter()
+                .map(|class| format!("{class}: {}", self.count(group, class)))
+                .collect();
+            format!("{group}: {}", parts.join(", "))
+        };
+        CLASSES.iter().map(line).collect()
+    }
+
+    /// The classes that were never met.
+    pub fn missing(&self) -> Vec<String> {
+        let mut missing = Vec::new();
+        for (group, classes) in CLASSES {
+            for class in *classes {
+                if self.count(group, class) == 0 {
+                    missing.push(format!("{group}: {class}"));
+                }
+            }
+        }
+        missing
+    }
+}
+
+#[cfg(test)]
+mod tests {
+    use super::*;
+
+    #[test]
+    fn what_was_never_met_is_missing() {
+        let mut counters = Counters::new();
+        let all: usize = CLASSES.iter().map(|(_, classes)| classes.len()).sum();
+        assert_eq!(counters.missing().len(), all);
+        counters.met("flag", "3");
+        assert_eq!(counters.count("flag", "3"), 1);
+        assert_eq!(counters.missing().len(), all - 1);
+        assert!(!counters.missing().contains(&"flag: 3".to_string()));
+        assert_eq!(counters.lines().len(), CLASSES.len());
+    }
+}

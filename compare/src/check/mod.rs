@@ -1,0 +1,23 @@
+//! Checks of this implementation on generated inputs. Each can fail, and counts what it met.
+
+pub mod counters;
+
+pub mod numbers;
+
+pub mod tables;
+
+pub mod thermometers;
+
+pub mod rules;
+
+pub mod samples;
+
+pub mod products;
+
+pub mod lists;
+
+pub mod twins;
+
+pub mod listings;
+
+pub mod run;

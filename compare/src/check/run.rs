@@ -1,0 +1,125 @@
+//! Runs all checks under one seed, or one case again.
+
+use std::panic::{catch_unwind, AssertUnwindSafe};
+
+use super::counters::Counters;
+use super::listings::check_listing;
+use super::lists::check_list;
+use super::numbers::check_divisions;
+use super::tables::{check_neighbours, check_table};
+use super::thermometers::check_thermometer;
+use crate::generator::random::case_seed;
+
+type Check = fn(u64, &mut Counters) -> Result<(), String>;
+
+/// The kinds of cases, by the name that `--case` takes.
+pub const KINDS: [(&str, Check); 6] = [
+    ("division", check_divisions),
+    ("neighbours", check_neighbours),
+    ("table", check_table),
+    ("thermometer", check_thermometer),
+    ("list", check_list),
+    ("listing", check_listing),
+];
+
+pub const DEFAULT_SEED: u64 = 20_260_101;
+pub const DEFAULT_FEEDS: u64 = 4_000;
+
+/// One case that failed.
+#[derive(Clone, Debug)]
+pub struct Failure {
+    pub kind: &'static str,
+    pub seed: u64,
+    pub what: String,
+}
+
+impl Failure {
+    /// The command that repeats the failing case.
+    pub fn command(&self) -> String {
+        let (kind, seed) = (self.kind, self.seed);
+        format!("cargo run --release --offline -- check --case {kind}:{seed}")
+    }
+}
+
+/// Runs one case. A panic, of an overflow for instance, is a failure like any other.
+pub fn run_case(
+    kind: &'static str,
+    check: Check,
+    seed: u64,
+    counters: &mut Counters,
+) -> Result<(), Failure> {
+    let result = catch_unwind(AssertUnwindSafe(|| check(seed, counters)));
+    match result {
+        Ok(Ok(())) => Ok(()),
+        Ok(Err(what)) => Err(Failure { kind, seed, what }),
+        Err(_) => Err(Failure {
+            kind,
+            seed,
+            what: "a panic, printed above".to_string(),
+        }),
+    }
+}
+
+fn fed(counters: &Counters) -> u64 {
+    let answers = ["accepted", "4", "5", "6", "7"];
+    let counts = answers.map(|answer| counters.count("feed answer", answer));
+    counts.iter().sum()
+}
+
+/// Runs all kinds of cases under one seed until lists have at least this many feeds.
+pub fn run_all(seed: u64, feeds: u64, counters: &mut Counters) -> Result<(), Failure> {
+    for (number, (kind, check)) in KINDS.into_iter().enumerate() {
+        let master = case_seed(seed, number as u64);
+        let cases = match kind {
+            "division" => feeds / 30 + 1,
+            "neighbours" => feeds / 1_000 + 1,
+            "table" => feeds / 3 + 1,
+            "thermometer" => 5 * feeds,
+            "listing" => feeds / 20 + 1,
+            _ => u64::MAX,
+        };
+        for index in 0..cases {
+            if kind == "list" && fed(counters) >= feeds {
+                break;
+            }
+            // The first neighbours are those of the bench table.
+            let first_neighbours = kind == "neighbours" && index == 0;
+            let seed = if first_neighbours {
+                0
+            } else {
+                case_seed(master, index)
+            };
+            run_case(kind, check, seed, counters)?;
+        }
+    }
+    Ok(())
+}
+
+#[cfg(test)]
+mod tests {
+    use super::*;
+
+    #[test]
+    fn a_failure_says_what_differed_and_how_to_repeat_it() {
+        let mut counters = Counters::new();
+        let differing: Check = |seed, _| Err(format!("{seed} differs"));
+        let failure = run_case("list", differing, 12, &mut counters).unwrap_err();
+        assert_eq!(failure.what, "12 differs");
+        let command = "cargo run --release --offline -- check --case list:12";
+        assert_eq!(failure.command(), command);
+        let overflowing: Check = |_, _| panic!("an overflow");
+        let failure = run_case("table", overflowing, 3, &mut counters).unwrap_err();
+        assert_eq!((failure.kind, failure.seed), ("table", 3));
+        let passing: Check = |_, _| Ok(());
+        assert!(run_case("table", passing, 3, &mut counters).is_ok());
+    }
+
+    #[test]
+    fn a_small_run_passes_and_repeats_itself() {
+        let mut first = Counters::new();
+        run_all(5, 60, &mut first).unwrap();
+        let mut second = Counters::new();
+        run_all(5, 60, &mut second).unwrap();
+        assert_eq!(first.lines(), second.lines());
+    }
+}

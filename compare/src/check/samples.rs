@@ -1,0 +1,146 @@
+//! Counts at which edges the samples of accepted records stand.
+
+use super::counters::Counters;
+use crate::acceptance::{good_counts, target_readings, AcceptedSamples};
+use crate::record::ScanRecord;
+use crate::table::{Limits, Side, Table, CHANNELS, SIDES, TARGETS};
+
+/// Counts which edges the samples of an accepted record stand at.
+pub fn count_samples(
+    table: &Table,
+    record: &ScanRecord,
+    samples: &AcceptedSamples,
+    counters: &mut Counters,
+) {
+    for target in TARGETS {
+        let readings = target_readings(table, record, target);
+        let limits = &table.thermometer_limits;
+        let passed: Vec<i128> = readings
+            .iter()
+            .flatten()
+            .copied()
+            .filter(|t| limits.low <= *t && *t <= limits.upp)
+            .collect();
+        let mut good = 0;
+        for t in &passed {
+            let differing = passed
+                .iter()
+                .filter(|other| (*other - t).abs() > limits.difference)
+                .count();
+            good += if differing < 2 { 1 } else { 0 };
+            match differing {
+                0 => {}
+                1 => counters.met("target readings", "one rival differs"),
+                2 => counters.met("target readings", "two rivals differ"),
+                _ => counters.met("target readings", "three or more"),
+            }
+        }
+        count_differences(&passed, limits, counters, "target readings");
+        for reading in &readings {
+            let mut met = |class: &str| counters.met("target readings", class);
+            match reading {
+                None => met("rule refuses"),
+                Some(t) => {
+                    if *t == limits.low {
+                        met("at T_low");
+                    }
+                    if *t == limits.low - 1 {
+                        met("below T_low by one");
+                    }
+                    if *t == limits.upp {
+                        met("at T_upp");
+                    }
+                    if *t == limits.upp + 1 {
+                        met("above T_upp by one");
+                    }
+                }
+            }
+        }
+        if good == table.least_good(target) {
+            counters.met("target readings", "least number met exactly");
+        }
+        if good == table.least_good(target) - 1 {
+            counters.met("target readings", "least number missed by one");
+        }
+    }
+    for thermometer in &samples.thermometers {
+        if table.thermometers[thermometer.number - 1].weight == 0 {
+            counters.met("target readings", "accepted without weight");
+        }
+    }
+    for channel in 0..CHANNELS {
+        let mut good = Vec::new();
+        for side in SIDES {
+            let limits = table.channels[channel].limits(side);
+            let counts = record.side_counts(side, channel).map(|count| count as i128);
+            let mut met = |class: &str| counters.met("counts", class);
+            for count in counts {
+                if count == limits.low {
+                    met("at low");
+                }
+                if count == limits.low - 1 {
+                    met("one below low");
+                }
+                if count == limits.upp {
+                    met("at upp");
+                }
+                if count == limits.upp + 1 {
+                    met("one above upp");
+                }
+            }
+            let passed: Vec<i128> = counts
+                .into_iter()
+                .filter(|count| limits.low <= *count && *count <= limits.upp)
+                .collect();
+            count_differences(&passed, &limits, counters, "counts");
+            let counts = good_counts(table, record, side, channel);
+            let group = match side {
+                Side::Warm => "good warm counts",
+                Side::Cold => "good cold counts",
+            };
+            counters.met(group, &counts.len().to_string());
+            good.push(counts);
+        }
+        if good[0].len() >= 3 && good[1].len() >= 3 {
+            let lowest = good[0].iter().map(|one| one.count as i128).min().unwrap();
+            let highest = good[1].iter().map(|one| one.count as i128).max().unwrap();
+            let class = match lowest - highest {
+                apart @ -1..=1 => apart.to_string(),
+                apart if apart < 0 => "below -1".to_string(),
+                _ => "above 1".to_string(),
+            };
+            counters.met("lowest warm less highest cold", &class);
+        }
+        let (warm, cold) = (&samples.warm[channel], &samples.cold[channel]);
+        match (warm.is_empty(), cold.is_empty()) {
+            (true, true) => counters.met("bad side", "both"),
+            (true, false) => counters.met("bad side", "warm only"),
+            (false, true) => counters.met("bad side", "cold only"),
+            _ => {}
+        }
+        for side in [warm, cold] {
+            if !side.is_empty() {
+                let class = format!("{} counts", side.len());
+                counters.met("scan value of", &class);
+            }
+        }
+    }
+}
+
+fn count_differences(passed: &[i128], limits: &Limits, counters: &mut Counters, group: &str) {
+    let (at, beyond) = match group {
+        "counts" => ("at difference", "one beyond difference"),
+        _ => ("difference dT", "difference dT + 1"),
+    };
+    for (index, first) in passed.iter().enumerate() {
+        for second in &passed[index + 1..] {
+            let difference = (first - second).abs();
+            if difference == limits.difference {
+                counters.met(group, at);
+            }
+            if difference == limits.difference + 1 {
+                counters.met(group, beyond);
+            }
+        }
+    }
+}

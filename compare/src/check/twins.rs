@@ -1,0 +1,118 @@
+//! Checks of alike lists: the same products.
+
+use super::counters::Counters;
+use super::lists::{outcomes, Outcome};
+use crate::acceptance::accepted_samples;
+use crate::calibrator::judge;
+use crate::generator::lists::FeedList;
+use crate::generator::twins::alike_twin;
+use crate::product::LENGTH;
+use crate::record::ScanRecord;
+use crate::table::{open, CHANNELS};
+
+/// Whether two lists under one table are alike.
+pub fn are_alike(first: &FeedList, second: &FeedList) -> bool {
+    if first.table != second.table || first.feeds.len() != second.feeds.len() {
+        return false;
+    }
+    let table = open(&first.table).expect("a list has an accepted table");
+    let mut rolls: [Vec<ScanRecord>; 2] = [Vec::new(), Vec::new()];
+    for pair in first.feeds.iter().zip(&second.feeds) {
+        let judged = [
+            judge(&rolls[0], &pair.0.record, pair.0.buffer.len()),
+            judge(&rolls[1], &pair.1.record, pair.1.buffer.len()),
+        ];
+        match judged {
+            [Err(one), Err(other)] if one == other => {}
+            [Ok(one), Ok(other)] => {
+                let earth = |record: &ScanRecord| {
+                    let channels = 0..CHANNELS;
+                    let counts = channels.map(|channel| record.earth_counts(channel));
+                    counts.collect::<Vec<_>>()
+                };
+                let same = one.number() == other.number()
+                    && earth(&one) == earth(&other)
+                    && accepted_samples(&table, &one) == accepted_samples(&table, &other);
+                if !same {
+                    return false;
+                }
+                rolls[0].push(one);
+                rolls[1].push(other);
+            }
+            _ => return false,
+        }
+    }
+    true
+}
+
+/// How many samples of two records with the same layout differ.
+fn changed_samples(first: &[u8], second: &[u8]) -> u64 {
+    // PAM, offset and thermometers; warm counts; cold counts.
+    let parts = [10..44, 47..223, 226..402];
+    let mut changed = 0;
+    for part in parts {
+        let pairs = first[part.clone()].chunks(2).zip(second[part].chunks(2));
+        changed += pairs.filter(|(one, other)| one != other).count() as u64;
+    }
+    changed
+}
+
+pub fn check_twin(
+    list: &FeedList,
+    first: &[Outcome],
+    seed: u64,
+    counters: &mut Counters,
+) -> Result<(), String> {
+    let twin = alike_twin(list, seed);
+    if !are_alike(list, &twin) {
+        return Err("the twin is not alike".to_string());
+    }
+    counters.met("twins", "lists compared");
+    for (index, outcome) in outcomes(&twin).iter().enumerate() {
+        let about = format!("feed {} of the list and its twin", index + 1);
+        if outcome.answer != first[index].answer {
+            return Err(format!("{about}: answers differ"));
+        }
+        if outcome.answer != 0 {
+            counters.met("twins", "refused feeds");
+            continue;
+        }
+        if outcome.buffer[..LENGTH] != first[index].buffer[..LENGTH] {
+            return Err(format!("{about}: products differ"));
+        }
+        counters.met("twins", "products compared");
+        let changed = changed_samples(&list.feeds[index].record, &twin.feeds[index].record);
+        counters.met_times("twins", "samples changed", changed);
+    }
+    Ok(())
+}
+
+#[cfg(test)]
+mod tests {
+    use super::*;
+    use crate::generator::lists::Feed;
+    use crate::generator::records::RecordValues;
+    use crate::generator::tables::TableValues;
+
+    #[test]
+    fn lists_with_other_accepted_samples_are_not_alike() {
+        let feed = |record: &RecordValues| FeedList {
+            table: TableValues::bench().encode(),
+            feeds: vec![Feed {
+                record: record.encode(),
+                buffer: vec![0; LENGTH],
+            }],
+        };
+        let bench = RecordValues::bench();
+        let mut fourth = bench.clone();
+        fourth.warm[0][3] = 20_100;
+        let mut other_fourth = bench.clone();
+        other_fourth.warm[0][3] = 20_200;
+        let mut first = bench.clone();
+        first.warm[0][0] = 20_100;
+        assert!(are_alike(&feed(&fourth), &feed(&other_fourth)));
+        assert!(!are_alike(&feed(&fourth), &feed(&bench)));
+        // The same counts in another place.
+        assert!(!are_alike(&feed(&fourth), &feed(&first)));
+    }
+}

@@ -1,0 +1,210 @@
+//! Lists of feeds under one accepted table.
+
+use super::counts::{channel_counts, plan_channel, ChannelPlan};
+use super::random::Random;
+use super::random_tables::random_table;
+use super::records::{record_neighbours, RecordValues};
+use super::scenes::earth_counts;
+use super::tables::TableValues;
+use super::thermometers::{plan_thermometers, thermometer_counts, ThermometerPlan};
+use crate::calibrator::judge;
+use crate::product::LENGTH;
+use crate::record::ScanRecord;
+use crate::table::{open, Table};
+use crate::window::{channel_sums, window};
+
+/// One feed: any bytes as its record, and a buffer as it is before.
+#[derive(Clone, Debug)]
+pub struct Feed {
+    pub record: Vec<u8>,
+    pub buffer: Vec<u8>,
+}
+
+/// A list of feeds to a fresh calibrator under an accepted table.
+#[derive(Clone, Debug)]
+pub struct FeedList {
+    pub table: Vec<u8>,
+    pub feeds: Vec<Feed>,
+}
+
+/// What stays the same over a list.
+struct Plan {
+    table: TableValues,
+    thermometers: ThermometerPlan,
+    channels: Vec<ChannelPlan>,
+    /// One feed in this many has a wrong record, a wrong number or a short buffer, each.
+    trouble: usize,
+}
+
+/// Makes sure that the weight of age 0 alone is 1 in a hundred.
+fn current_scan_suffices(weights: &mut [u8; 8]) {
+    let whole: u32 = weights.iter().map(|weight| *weight as u32).sum();
+    if 100 * (weights[0] as u32) < whole {
+        *weights = [1, 0, 0, 0, 0, 2, 0, 1];
+    }
+}
+
+fn plan(random: &mut Random) -> Plan {
+    let mut table = random_table(random);
+    let thermometers = plan_thermometers(random, &mut table);
+    // Mostly the current scan is enough, so that what comes after the weights decides.
+    if !random.once_in(3) {
+        current_scan_suffices(&mut table.thermometer_weights);
+        table.thermometer_percentage = 1;
+    }
+    if !random.once_in(3) {
+        current_scan_suffices(&mut table.count_weights);
+        let whole: u32 = table
+            .count_weights
+            .iter()
+            .map(|weight| *weight as u32)
+            .sum();
+        let current = (100 * table.count_weights[0] as u32 / whole) as u8;
+        table.warm_percentage = random.pick(&[1, current]);
+        table.cold_percentage = random.pick(&[1, current]);
+    }
+    let often_one_sided = random.once_in(6);
+    if often_one_sided {
+        // One warm and one cold side are enough.
+        table.warm_percentage = random.pick(&[1, 10, 50]);
+        table.cold_percentage = random.pick(&[1, 10, 50]);
+        if random.once_in(2) {
+            // With weights of 1, D can be 1.
+            table.count_weights = random.pick(&[[1; 8], [1, 1, 0, 0, 0, 0, 0, 0]]);
+        }
+    }
+    let mut channels = Vec::new();
+    for channel in 0..22 {
+        let one_sided = random.once_in(if often_one_sided { 1 } else { 10 });
+        channels.push(plan_channel(random, &mut table, channel, one_sided));
+    }
+    Plan {
+        table,
+        thermometers,
+        channels,
+        trouble: random.pick(&[1_000, 12, 4]),
+    }
+}
+
+fn first_number(random: &mut Random) -> u32 {
+    let any = random.next() as u32;
+    let last_of_all = u32::MAX - random.below(30) as u32;
+    if random.once_in(20) {
+        return u32::MAX;
+    }
+    random.pick(&[0, 0, 1, 7, any, last_of_all])
+}
+
+fn next_number(random: &mut Random, last: u32, trouble: usize) -> u32 {
+    if random.once_in(trouble) {
+        let lower = last.saturating_sub(random.between(1, 9) as u32);
+        let higher = random.between(last as i64, u32::MAX as i64) as u32;
+        // After a number near the end few or none are accepted.
+        let near_end = random.pick(&[higher, u32::MAX - 8, u32::MAX]);
+        let far = if random.once_in(6) { near_end } else { 0 };
+        return random.pick(&[last, last, lower, lower, far]);
+    }
+    let ahead = match random.below(12) {
+        0..=7 => 1,
+        8..=10 => random.between(2, 9) as u32,
+        _ => random.pick(&[1, 2, 7, 8, 100_000]),
+    };
+    last.saturating_add(ahead)
+}
+
+/// A buffer that a product fits into.
+pub fn long_buffer(random: &mut Random) -> Vec<u8> {
+    let any = LENGTH + random.below(200);
+    let length = random.pick(&[LENGTH, LENGTH, LENGTH + 1, any]);
+    random.bytes(length)
+}
+
+/// A buffer that no product fits into.
+pub fn short_buffer(random: &mut Random) -> Vec<u8> {
+    let any = random.below(LENGTH);
+    let length = random.pick(&[0, LENGTH - 1, LENGTH - 1, any]);
+    random.bytes(length)
+}
+
+pub fn random_buffer(random: &mut Random, trouble: usize) -> Vec<u8> {
+    if random.once_in(trouble) {
+        short_buffer(random)
+    } else {
+        long_buffer(random)
+    }
+}
+
+/// A well-formed record with its calibration samples by the plan and earth counts that aim at
+/// the edges of the window it would have behind this roll.
+fn planned_record(
+    random: &mut Random,
+    plan: &Plan,
+    table: &Table,
+    roll: &[ScanRecord],
+    number: u32,
+) -> RecordValues {
+    let mut record = RecordValues::bench();
+    record.number = number;
+    let thermometers = thermometer_counts(random, &plan.thermometers, &plan.table);
+    record.pam = thermometers.pam;
+    record.offset = thermometers.offset;
+    record.thermometers = thermometers.counts;
+    for channel in 0..22 {
+        let counts = channel_counts(random, &plan.channels[channel], &plan.table, channel);
+        (record.warm[channel], record.cold[channel]) = counts;
+    }
+    let own = ScanRecord::read(&record.encode()).expect("the encoder's layout is right");
+    let window = window(table, &[roll, &[own]].concat());
+    for channel in 0..22 {
+        let sums = channel_sums(table, &window, channel);
+        record.earth[channel] = earth_counts(random, &sums);
+    }
+    record
+}
+
+/// Mostly a record with a wrong length, or with a byte of a tag or length wrong by one.
+fn wrong_record(random: &mut Random, record: &RecordValues) -> Vec<u8> {
+    if random.once_in(4) {
+        let mut bytes = record.encode();
+        bytes.resize(random.pick(&[0, 1, 4_628, 4_630]), 0);
+        return bytes;
+    }
+    random.pick(&record_neighbours(record)).bytes
+}
+
+/// A list of some dozens of feeds.
+pub fn feed_list(seed: u64) -> FeedList {
+    let mut random = Random::new(seed);
+    let plan = plan(&mut random);
+    let table_bytes = plan.table.encode();
+    let table = open(&table_bytes).expect("a planned table is accepted");
+    // Only the last records matter to what is planned next.
+    let mut roll: Vec<ScanRecord> = Vec::new();
+    let mut feeds = Vec::new();
+    for _ in 0..random.between(3, 30) {
+        let number = match roll.last() {
+            None => first_number(&mut random),
+            Some(last) => next_number(&mut random, last.number(), plan.trouble),
+        };
+        let record = planned_record(&mut random, &plan, &table, &roll, number);
+        let mut bytes = record.encode();
+        if random.once_in(plan.trouble) {
+            bytes = wrong_record(&mut random, &record);
+        }
+        let buffer = random_buffer(&mut random, plan.trouble);
+        if let Ok(joined) = judge(&roll, &bytes, buffer.len()) {
+            roll.push(joined);
+            if roll.len() > 8 {
+                roll.remove(0);
+            }
+        }
+        feeds.push(Feed {
+            record: bytes,
+            buffer,
+        });
+    }
+    FeedList {
+        table: table_bytes,
+        feeds,
+    }
+}

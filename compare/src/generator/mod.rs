@@ -1,0 +1,38 @@
+//! Makers of inputs that aim at edges. Every maker takes a seed and gives the same for the same.
+//!
+//! The encoders share no code with the parsers. Where an edge depends on the rules, such as a
+//! count at which a scene turns outside, this crate's rules are asked where it lies; what is
+//! made are inputs only, so a wrong rule would at most miss its aim.
+
+pub mod random;
+
+pub mod numbers;
+
+pub mod tables;
+
+pub mod table_neighbours;
+
+pub mod random_tables;
+
+pub mod records;
+
+pub mod thermometers;
+
+pub mod counts;
+
+pub mod scenes;
+
+pub mod lists;
+
+pub mod twins;
+
+pub mod listings;
+
+/// An input close to another one, and the answer planned for it: 0 for accepted, or the number
+/// of the refusal.
+#[derive(Clone, Debug)]
+pub struct Neighbour {
+    pub description: String,
+    pub bytes: Vec<u8>,
+    pub answer: u8,
+}

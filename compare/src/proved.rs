@@ -1,0 +1,154 @@
+//! The proved functions, called through the static library of the crate `comparison`, against this
+//! implementation. Nothing checks the declarations below against the proved source, so they are few.
+
+use crate::against;
+use crate::generator::random::case_seed;
+use crate::generator::thermometers::ThermometerInput;
+
+extern "C" {
+    fn compared_floor_div(a: i64, b: i64) -> i64;
+    fn compared_round(a: i64, b: i64) -> i64;
+    fn compared_u16(bytes: *const u8, length: usize, at: usize) -> u16;
+    fn compared_u32(bytes: *const u8, length: usize, at: usize) -> u32;
+    fn compared_i16(bytes: *const u8, length: usize, at: usize) -> i64;
+    fn compared_i32(bytes: *const u8, length: usize, at: usize) -> i64;
+    fn compared_field(bytes: *const u8, length: usize, at: usize, tag: u8, size: u16) -> usize;
+    fn compared_layout(
+        bytes: *const u8,
+        length: usize,
+        tags: *const u8,
+        tag_count: usize,
+        sizes: *const u16,
+        size_count: usize,
+    ) -> bool;
+    fn compared_thermometer(
+        r_pam: u32,
+        r0: u32,
+        alpha: u32,
+        delta: u32,
+        beta: u32,
+        pam: u16,
+        offset: u16,
+        count: u16,
+    ) -> i64;
+}
+
+// Each wrapper tests what the proved function's `requires` asks.
+
+fn floor_div(a: i64, b: i64) -> i64 {
+    assert!(b > 0);
+    unsafe { compared_floor_div(a, b) }
+}
+
+fn round(a: i64, b: i64) -> i64 {
+    assert!(b > 0);
+    unsafe { compared_round(a, b) }
+}
+
+fn numbers(bytes: &[u8], at: usize) -> (u16, i16, u32, i32) {
+    assert!(at + 3 < bytes.len());
+    let (start, length) = (bytes.as_ptr(), bytes.len());
+    let (i16_read, i32_read) = unsafe {
+        (
+            compared_i16(start, length, at),
+            compared_i32(start, length, at),
+        )
+    };
+    (
+        unsafe { compared_u16(start, length, at) },
+        i16_read.try_into().expect("an i16 is inside 16 bits"),
+        unsafe { compared_u32(start, length, at) },
+        i32_read.try_into().expect("an i32 is inside 32 bits"),
+    )
+}
+
+/// The proved reader hands back the empty part for a wrong field, so that of a field of length 0 the
+/// layout's test decides. A field that does not fit the bytes is none of the reader's.
+fn field(bytes: &[u8], at: usize, tag: u8, length: usize) -> Option<&[u8]> {
+    let size: u16 = length.try_into().ok()?;
+    let value = bytes.get(at + 3..at + 3 + length)?;
+    if length == 0 {
+        return layout_is_right(&bytes[at..at + 3], &[(tag, 0)]).then_some(value);
+    }
+    let found = unsafe { compared_field(bytes.as_ptr(), bytes.len(), at, tag, size) };
+    (found == length).then_some(value)
+}
+
+/// The proved function is given bytes of the layout's own length.
+fn layout_is_right(bytes: &[u8], layout: &[(u8, usize)]) -> bool {
+    let size: usize = layout.iter().map(|(_, length)| 3 + length).sum();
+    if size != bytes.len() || layout.iter().any(|(_, length)| *length > 65_535) {
+        return false;
+    }
+    let tags: Vec<u8> = layout.iter().map(|(tag, _)| *tag).collect();
+    let sizes: Vec<u16> = layout.iter().map(|(_, length)| *length as u16).collect();
+    unsafe {
+        compared_layout(
+            bytes.as_ptr(),
+            bytes.len(),
+            tags.as_ptr(),
+            tags.len(),
+            sizes.as_ptr(),
+            sizes.len(),
+        )
+    }
+}
+
+/// t, or the number of the refusal, which the proved function gives with 1,000,000 added.
+pub fn thermometer(input: &ThermometerInput) -> Result<i32, u8> {
+    let coded = unsafe {
+        compared_thermometer(
+            input.pam_resistance,
+            input.resistance,
+            input.alpha,
+            input.delta,
+            input.beta,
+            input.pam,
+            input.offset,
+            input.count,
+        )
+    };
+    if coded > 1_000_000 {
+        return Err((coded - 1_000_000) as u8);
+    }
+    Ok(coded as i32)
+}
+
+type Comparison = fn(u64) -> Result<(), String>;
+
+/// The comparisons by the name that `--case` takes, and how many cases of each are run for a thousand.
+pub const KINDS: [(&str, Comparison, u64); 6] = [
+    ("floor_div", |seed| against::divisions(seed, floor_div), 10),
+    ("round", |seed| against::roundings(seed, round), 10),
+    ("numbers", |seed| against::numbers(seed, numbers), 200),
+    ("field", |seed| against::fields(seed, field), 1_000),
+    (
+        "layout",
+        |seed| against::layouts(seed, layout_is_right),
+        1_000,
+    ),
+    (
+        "thermometer",
+        |seed| against::thermometer(seed, thermometer),
+        10_000,
+    ),
+];
+
+/// Runs every comparison; the first difference is the error, with the command that repeats it.
+pub fn run(seed: u64, thousands: u64) -> Result<(), String> {
+    for (number, (kind, comparison, share)) in KINDS.into_iter().enumerate() {
+        let master = case_seed(seed, number as u64);
+        let cases = share * thousands;
+        for index in 0..cases {
+            run_case(kind, comparison, case_seed(master, index))?;
+        }
+        println!("proved {kind}: {cases} cases agree");
+    }
+    Ok(())
+}
+
+/// Runs one case of a comparison.
+pub fn run_case(kind: &str, comparison: Comparison, seed: u64) -> Result<(), String> {
+    let repeat = format!("repeat with: tools/compare --case {kind}:{seed}");
+    comparison(seed).map_err(|what| format!("failed: {kind} {seed}: {what}\n{repeat}"))
+}

@@ -1,0 +1,100 @@
+// The proved functions as C functions, for compare/ to call.
+ghost use mathlib.Core.Path.{_≡_};
+ghost use Prim.Native.Nat.{_+_, _<_, _≤_};
+ghost use lib.IntN.{pos};
+ghost use lib.ListN.{length};
+ghost use lib.Signed.{_<ℤ_};
+ghost use Rattle.integers.specs.Rounding.{floor, r};
+ghost use Rattle.fields.specs.Numbers.{u16At, u32At, i16At, i32At};
+ghost use Rattle.fields.specs.Fields.{headSize, fieldValue, layoutOf, layoutSize, layoutIsRight};
+ghost use Rattle.thermometer.specs.Reading.{reading};
+ghost use Rattle.comparison.specs.Coded.{coded};
+use thermometer::Reading;
+
+#[no_mangle]
+pub extern "C" fn compared_floor_div(a: i64, b: i64) -> i64
+    requires { ⌜ pos 0 <ℤ b ⌝ }
+    ensures { λ q. ⌜ q ≡ floor a b ⌝ }
+{
+    integers::floor_div(a, b)
+}
+
+#[no_mangle]
+pub extern "C" fn compared_round(a: i64, b: i64) -> i64
+    requires { ⌜ pos 0 <ℤ b ⌝ }
+    ensures { λ q. ⌜ q ≡ r a b ⌝ }
+{
+    integers::round(a, b)
+}
+
+#[no_mangle]
+pub extern "C" fn compared_u16(bytes: &[u8], at: usize) -> u16
+    requires { ⌜ at + 1 < length (now bytes) ⌝ }
+    ensures { λ n. ⌜ n ≡ u16At (now (bytes .entry)) at ⌝ }
+{
+    fields::u16_at(bytes, at)
+}
+
+#[no_mangle]
+pub extern "C" fn compared_u32(bytes: &[u8], at: usize) -> u32
+    requires { ⌜ at + 3 < length (now bytes) ⌝ }
+    ensures { λ n. ⌜ n ≡ u32At (now (bytes .entry)) at ⌝ }
+{
+    fields::u32_at(bytes, at)
+}
+
+#[no_mangle]
+pub extern "C" fn compared_i16(bytes: &[u8], at: usize) -> i64
+    requires { ⌜ at + 1 < length (now bytes) ⌝ }
+    ensures { λ z. ⌜ z ≡ i16At (now (bytes .entry)) at ⌝ }
+{
+    fields::i16_at(bytes, at)
+}
+
+#[no_mangle]
+pub extern "C" fn compared_i32(bytes: &[u8], at: usize) -> i64
+    requires { ⌜ at + 3 < length (now bytes) ⌝ }
+    ensures { λ z. ⌜ z ≡ i32At (now (bytes .entry)) at ⌝ }
+{
+    fields::i32_at(bytes, at)
+}
+
+// How long the part is that the field reader hands back.
+#[no_mangle]
+pub extern "C" fn compared_field(bytes: &[u8], at: usize, tag: u8, size: u16) -> usize
+    requires { ⌜ at + headSize + size ≤ length (now bytes) ⌝ }
+    ensures { λ n. ⌜ n ≡ length (fieldValue (now (bytes .entry)) at (record { tag = tag; size = size })) ⌝ }
+{
+    fields::field(bytes, at, tag, size).len()
+}
+
+#[no_mangle]
+pub extern "C" fn compared_layout(bytes: &[u8], tags: &[u8], sizes: &[u16]) -> bool
+    requires { ⌜ (length (now tags) ≡ length (now sizes)) × (layoutSize (layoutOf (now tags) (now sizes)) ≤ length (now bytes)) ⌝ }
+    ensures { λ b. ⌜ b ≡ layoutIsRight (now (bytes .entry)) 0 (layoutOf (now (tags .entry)) (now (sizes .entry))) ⌝ }
+{
+    fields::layout_is_right(bytes, tags, sizes)
+}
+
+// t, or 1,000,000 and the number of the refusal.
+#[no_mangle]
+pub extern "C" fn compared_thermometer(
+    rpam: u32,
+    r0: u32,
+    alpha: u32,
+    delta: u32,
+    beta: u32,
+    pam: u16,
+    offset: u16,
+    count: u16,
+) -> i64
+    ensures { λ z. ⌜ z ≡ coded (reading rpam r0 alpha delta beta pam offset count) ⌝ }
+{
+    let answer = thermometer::thermometer(rpam, r0, alpha, delta, beta, pam, offset, count);
+    match answer {
+        Reading::Units(t) => t,
+        Reading::CoefficientOutside => 1_000_008,
+        Reading::PamNotAboveOffset => 1_000_009,
+        Reading::RatioOutside => 1_000_010,
+    }
+}

@@ -1,0 +1,42 @@
+-- Laws on fractions whose denominators are above 0: products of denominators, and a distance that does not depend on how a fraction is written.
+use mathlib.Core.Path.{_≡_, sym, _∙_, ap}
+use mathlib.Core.List.{List, [], _∷_}
+use lib.IntN.{ℤ, pos, negsuc, negℤ, _+ℤ_, _-ℤ_, _*ℤ_}
+use lib.Signed.{_≤ℤ_, _<ℤ_}
+use Rattle.integers.specs.Bounds.{Bounded}
+use Rattle.integers.specs.Fractions.{Fraction, _≡ᶠ_, _≤ᶠ_, _<ᶠ_, Distance}
+use Rattle.integers.proofs.Ring.{_:+_, _:-_, _:*_, opp, ring, #, v0, v1, v2, v3, v4, v5}
+use Rattle.integers.proofs.Order.{below-at-most}
+use Rattle.integers.proofs.Certificate.{_:≤_, _:<_, _:≡_, hyp, nat, tim, _⊕_, _⊗_, le-by, lt-by}
+use Rattle.integers.proofs.Bounds.{bounded-product, bounded-by-itself, bounded-equal, bounded-cancel}
+
+pub product-above : {a b : ℤ} → pos 0 <ℤ a → pos 0 <ℤ b → pos 0 <ℤ (a *ℤ b)
+product-above {a} {b} h k = (lt-by (a ∷ b ∷ []) ((# 0 :< v0) ∷ (# 0 :< v1) ∷ []) (# 0) (v0 :* v1) (hyp 0 ⊕ hyp 1 ⊕ hyp 2 ⊕ hyp 1 ⊗ hyp 2) tt h k)
+
+-- a fraction that is equal, written otherwise, is as far away
+pub distance-same : {limit : Fraction} {t : ℤ} {e : Fraction} (d : Fraction) → pos 0 <ℤ d .den → e ≡ᶠ d → Distance limit t e → Distance limit t d
+distance-same {limit} {t} {e} d p s h = record {
+  den-above = p;
+  apart = bounded-cancel (h .den-above) (bounded-equal (expand ∙ ap (λ z. limit .den *ℤ (t *ℤ e .den *ℤ d .den -ℤ z)) s ∙ collect)
+      (ring ((limit .num) ∷ (e .den) ∷ (d .den) ∷ []) (v0 :* v1 :* v2) (v1 :* (v0 :* v2)) tt)
+      (bounded-product (h .apart) (bounded-by-itself (below-at-most p))));
+}
+  where
+    expand : limit .den *ℤ (t *ℤ e .den -ℤ e .num) *ℤ d .den ≡ limit .den *ℤ (t *ℤ e .den *ℤ d .den -ℤ e .num *ℤ d .den)
+    expand = (ring ((limit .den) ∷ t ∷ (e .den) ∷ (e .num) ∷ (d .den) ∷ []) (v0 :* (v1 :* v2 :- v3) :* v4) (v0 :* (v1 :* v2 :* v4 :- v3 :* v4)) tt)
+
+    collect : limit .den *ℤ (t *ℤ e .den *ℤ d .den -ℤ d .num *ℤ e .den) ≡ e .den *ℤ (limit .den *ℤ (t *ℤ d .den -ℤ d .num))
+    collect = (ring ((limit .den) ∷ t ∷ (e .den) ∷ (d .num) ∷ (d .den) ∷ []) (v0 :* (v1 :* v2 :* v4 :- v3 :* v2)) (v2 :* (v0 :* (v1 :* v4 :- v3))) tt)
+
+-- a larger limit
+pub distance-weaker : {limit more : Fraction} {t : ℤ} {e : Fraction} → pos 0 <ℤ limit .den → pos 0 <ℤ more .den → limit ≤ᶠ more → Distance limit t e → Distance more t e
+distance-weaker {limit} {more} {t} {e} p q h d = record {
+  den-above = d .den-above;
+  apart = record {
+    low = (le-by ((limit .num) ∷ (limit .den) ∷ (more .num) ∷ (more .den) ∷ (e .den) ∷ (t *ℤ e .den -ℤ e .num) ∷ []) ((# 0 :< v1) ∷ (# 0 :< v3) ∷ (v0 :* v3 :≤ v2 :* v1) ∷ (# 0 :< v4) ∷ (opp (v0 :* v4) :≤ v1 :* v5) ∷ []) (opp (v2 :* v4)) (v3 :* v5) (hyp 0 ⊕ hyp 1 ⊕ hyp 3 ⊕ hyp 5 ⊕ hyp 0 ⊗ hyp 1 ⊕ hyp 2 ⊗ hyp 5 ⊕ hyp 3 ⊗ hyp 4) tt p q h (d .den-above) (d .apart .low));
+    high = (le-by ((limit .num) ∷ (limit .den) ∷ (more .num) ∷ (more .den) ∷ (e .den) ∷ (t *ℤ e .den -ℤ e .num) ∷ []) ((# 0 :< v1) ∷ (# 0 :< v3) ∷ (v0 :* v3 :≤ v2 :* v1) ∷ (# 0 :< v4) ∷ (v1 :* v5 :≤ v0 :* v4) ∷ []) (v3 :* v5) (v2 :* v4) (hyp 0 ⊕ hyp 1 ⊕ hyp 3 ⊕ hyp 5 ⊕ hyp 0 ⊗ hyp 1 ⊕ hyp 2 ⊗ hyp 5 ⊕ hyp 3 ⊗ hyp 4) tt p q h (d .den-above) (d .apart .high));
+  };
+}
+
+pub fraction-at-most-trans : (a b c : Fraction) → pos 0 <ℤ a .den → pos 0 <ℤ b .den → pos 0 <ℤ c .den → a ≤ᶠ b → b ≤ᶠ c → a ≤ᶠ c
+fraction-at-most-trans a b c p q s h k = (le-by ((a .num) ∷ (a .den) ∷ (b .num) ∷ (b .den) ∷ (c .num) ∷ (c .den) ∷ []) ((# 0 :< v1) ∷ (# 0 :< v3) ∷ (# 0 :< v5) ∷ (v0 :* v3 :≤ v2 :* v1) ∷ (v2 :* v5 :≤ v4 :* v3) ∷ []) (v0 :* v5) (v4 :* v1) (hyp 0 ⊕ hyp 2 ⊕ hyp 4 ⊕ hyp 5 ⊕ hyp 0 ⊗ hyp 2 ⊕ hyp 1 ⊗ hyp 5 ⊕ hyp 3 ⊗ hyp 4) tt p q s h k)

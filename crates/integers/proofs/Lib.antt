@@ -1,0 +1,11 @@
+pub mod Arithmetic
+pub mod Ring
+pub mod Linear
+pub mod Naturals
+pub mod Order
+pub mod Certificate
+pub mod Bounds
+pub mod Machine
+pub mod Floor
+pub mod Nearest
+pub mod Fractions

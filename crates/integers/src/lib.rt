@@ -1,0 +1,42 @@
+// Whole-number division and rounding on i64, and the laws on ℤ that every other crate uses.
+ghost use mathlib.Core.Path.{_≡_};
+ghost use lib.IntN.{pos, _-ℤ_, _*ℤ_};
+ghost use lib.Signed.{_<ℤ_};
+ghost use Rattle.integers.specs.Rounding.{floor, r};
+
+// The floor of a / b.
+pub fn floor_div(a: i64, b: i64) -> i64
+    requires { ⌜ pos 0 <ℤ b ⌝ }
+    ensures { λ q. ⌜ q ≡ floor a b ⌝ }
+{
+    let quotient = a / b;
+    if a % b < 0 {
+        return quotient - 1;
+    }
+    quotient
+}
+
+// What the floor of a / b leaves of a: from 0 to b - 1.
+fn remainder(a: i64, b: i64) -> i64
+    requires { ⌜ pos 0 <ℤ b ⌝ }
+    ensures { λ q. ⌜ q ≡ a -ℤ b *ℤ floor a b ⌝ }
+{
+    let rest = a % b;
+    if rest < 0 {
+        return rest + b;
+    }
+    rest
+}
+
+// r(a, b): nearest to a / b, halves up. 2a + b need not fit, so the remainder decides.
+pub fn round(a: i64, b: i64) -> i64
+    requires { ⌜ pos 0 <ℤ b ⌝ }
+    ensures { λ q. ⌜ q ≡ r a b ⌝ }
+{
+    let quotient = floor_div(a, b);
+    let rest = remainder(a, b);
+    if rest < b - rest {
+        return quotient;
+    }
+    quotient + 1
+}

@@ -1,0 +1,62 @@
+-- Laws of `cells` and `filled`, for rules that give cells of k elements each: a buffer that is filled from the front, a cell at a time.
+use Prim.Native.Nat.{ℕ, zero, suc, _+_, _*_, _<_, _≤_}
+use native.Mathlib.Decide.{decLt}
+use native.Mathlib.Nat.{le-refl, suc-mul, zero-add, zero-mul}
+use native.Mathlib.Numerals.{add-one}
+use native.Mathlib.Omega.{arith}
+use mathlib.Core.Path.{_≡_, refl, sym, ap, ap₂, _∙_}
+use mathlib.Core.List.{List, [], _++_, append-assoc, append-nil}
+use lib.ListN.{length, take, drop, length-append, drop-of-length-le}
+use lib.Seq.{take-at, drop-at}
+use Rattle.lists.specs.Build.{cells, put, filled}
+use Rattle.lists.proofs.Put.{put-behind}
+
+pub filled-none : {A : Type 0} (f : ℕ → List A) (k : ℕ) (b : List A) → b ≡ filled f k 0 b
+unfolding cells
+filled-none f k b = sym (ap (λ (n : ℕ). drop n b) (zero-mul k))
+
+pub filled-all : {A : Type 0} (f : ℕ → List A) (k n : ℕ) (b : List A) → length b ≤ n * k → filled f k n b ≡ cells f n
+filled-all f k n b full = rw (drop-of-length-le b full) (append-nil (cells f n))
+
+module _ {A : Type 0} (f : ℕ → List A) (k : ℕ) (each : (i : ℕ) → length (f i) ≡ k) where
+  pub length-cells : (n : ℕ) → length (cells f n) ≡ n * k
+  unfolding cells
+  length-cells zero = sym (zero-mul k)
+  length-cells (suc n) =
+      length-append (cells f n) (f n) ∙ ap₂ (λ (x y : ℕ). x + y) (length-cells n) (each n) ∙ sym (suc-mul n k)
+
+  pub filled-more : (n : ℕ) (b : List A) → put (filled f k n b) (n * k) (f n) ≡ filled f k (n + 1) b
+  unfolding cells
+  filled-more n b =
+      put-behind (cells f n) (f n) b (n * k) (length-cells n)
+      ∙ ap (λ (x : ℕ). cells f n ++ f n ++ drop x b) (ap (λ (x : ℕ). n * k + x) (each n) ∙ sym (suc-mul n k))
+      ∙ ap (λ (x : ℕ). filled f k x b) (sym (add-one n))
+
+  pub filled-is-put : (n : ℕ) (b : List A) → filled f k n b ≡ put b 0 (cells f n)
+  filled-is-put n b =
+      ap (λ (x : ℕ). cells f n ++ drop x b) (sym (length-cells n) ∙ sym (zero-add (length (cells f n))))
+
+  -- the cell i of n stands at i * k, whatever comes behind
+  pub cell-at : (n i : ℕ) (behind : List A) → i < n → take k (drop (i * k) (cells f n ++ behind)) ≡ f i
+  unfolding cells
+  cell-at zero i behind below = absurd (omega arith)
+  cell-at (suc n) i behind below =
+      ap (λ (l : List A). take k (drop (i * k) l)) (append-assoc (cells f n) (f n) behind)
+      ∙ by-order (decLt i n) (cell-at n i (f n ++ behind))
+    where
+      by-order : Dec (i < n) → (i < n → take k (drop (i * k) (cells f n ++ (f n ++ behind))) ≡ f i)
+          → take k (drop (i * k) (cells f n ++ (f n ++ behind))) ≡ f i
+      by-order (yes less) before = before less
+      by-order (no not-less) before =
+          let last : i ≡ n = omega arith in
+          rw (last, drop-at (cells f n) (f n ++ behind) (n * k) (length-cells n)) (take-at (f n) behind k (each n))
+
+  pub cell-of-cells : (n i : ℕ) → i < n → take k (drop (i * k) (cells f n)) ≡ f i
+  cell-of-cells n i below =
+      ap (λ (l : List A). take k (drop (i * k) l)) (sym (append-nil (cells f n))) ∙ cell-at n i [] below
+
+pub cells-same : {A : Type 0} (f g : ℕ → List A) (n : ℕ) → ((i : ℕ) → i < n → f i ≡ g i) → cells f n ≡ cells g n
+unfolding cells
+cells-same f g zero same = refl
+cells-same {A} f g (suc n) same =
+    ap₂ (λ (x y : List A). x ++ y) (cells-same f g n (λ i below. same i (omega arith))) (same n (le-refl (suc n)))

@@ -1,0 +1,49 @@
+-- Whether all of a row of tests hold: one more, each of them, the early end.
+use Prim.Native.Nat.{ℕ, zero, suc, _+_, _≤_, _<_}
+use native.Mathlib.Decide.{decLt}
+use native.Mathlib.Numerals.{add-one}
+use native.Mathlib.Omega.{arith}
+use mathlib.Core.Path.{_≡_, refl, ap, ap₂, _∙_}
+use mathlib.Core.Bool.{Bool, true, false, _&&_, and-eq-true-iff}
+use Rattle.lists.specs.Count.{every}
+
+module _ (holds : ℕ → Bool) where
+  pub every-none : every holds 0 ≡ true
+  unfolding every
+  every-none = refl
+
+  pub every-more : (n : ℕ) → every holds n ≡ true → every holds (n + 1) ≡ holds n
+  unfolding every
+  every-more n h = rw (add-one n, h)
+
+  -- the loop may end at the first that does not hold
+  pub every-ended : (a b : ℕ) → holds a ≡ false → a < b → every holds b ≡ false
+  unfolding every
+  every-ended a zero h l = absurd (omega arith)
+  every-ended a (suc b) h l = go (decLt a b) (λ k. every-ended a b h k)
+    where
+      and-false : (x : Bool) → (x && false) ≡ false
+      and-false true = refl
+      and-false false = refl
+
+      go : Dec (a < b) → (a < b → every holds b ≡ false) → (every holds b && holds b) ≡ false
+      go (yes k) earlier = ap (λ x. x && holds b) (earlier k)
+      go (no k) earlier =
+          let e : b ≡ a = omega arith in
+          ap (λ i. every holds b && holds i) e ∙ ap (λ x. every holds b && x) h ∙ and-false (every holds b)
+
+  pub each-of-every : (n i : ℕ) → every holds n ≡ true → i < n → holds i ≡ true
+  unfolding every
+  each-of-every zero i h l = absurd (omega arith)
+  each-of-every (suc n) i h l = let parts = and-eq-true-iff (every holds n) (holds n) .0 h in go (decLt i n) (λ k. each-of-every n i (parts .0) k) (parts .1)
+    where
+      go : Dec (i < n) → (i < n → holds i ≡ true) → holds n ≡ true → holds i ≡ true
+      go (yes k) earlier last = earlier k
+      go (no k) earlier last =
+          let e : i ≡ n = omega arith in
+          ap holds e ∙ last
+
+pub every-same : (holds also : ℕ → Bool) (n : ℕ) → ((i : ℕ) → i < n → holds i ≡ also i) → every holds n ≡ every also n
+unfolding every
+every-same holds also zero e = refl
+every-same holds also (suc n) e = ap₂ _&&_ (every-same holds also n (λ i h. e i (omega arith))) (e n (omega arith))

@@ -1,0 +1,6 @@
+pub mod Tabulate
+pub mod Put
+pub mod Cells
+pub mod Count
+pub mod Every
+pub mod Sum

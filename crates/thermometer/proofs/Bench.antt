@@ -1,0 +1,31 @@
+-- Document 01, "Bench scan", rows H1 to H3: the bench coefficients are alpha 3,850,000, delta 1,500,000 and beta 0.
+use mathlib.Core.Path.{_≡_, refl, sym, subst}
+use native.Mathlib.Omega.{arith}
+use lib.IntN.{pos}
+use lib.Signed.{_≤ℤ_, _<ℤ_, leZ-yes, ltZ-yes}
+use Rattle.integers.specs.Rounding.{floor}
+use Rattle.thermometer.specs.Rule.{q, s1, y, w, h, s2, F, answer}
+use Rattle.thermometer.specs.Reading.{Admissible}
+use Rattle.thermometer.proofs.Answer.{reached-before, answer-is}
+
+pub H1 : F 3850000 1500000 0 (pos 0) ≡ pos 16777216
+unfolding F s1 s2 h w y q floor
+H1 = refl
+
+pub H2 : F 3850000 1500000 0 (pos 4096) ≡ pos 16842767
+unfolding F s1 s2 h w y q floor
+H2 = refl
+
+F-at-4095 : F 3850000 1500000 0 (pos 4095) ≡ pos 16842751
+unfolding F s1 s2 h w y q floor
+F-at-4095 = refl
+
+admissible : Admissible 3850000 1500000 0
+admissible = omega arith
+
+-- 4,095 is at place 249,855
+pub H3 : answer 3850000 1500000 0 (pos 16842766) ≡ pos 4095
+H3 =
+    answer-is 3850000 1500000 0 (pos 16842766) {k = 249855} (omega arith)
+    (subst (λ f. f ≤ℤ pos 16842766) (sym F-at-4095) (leZ-yes tt))
+    (λ j h reached. omega (arith, reached-before admissible 249856 (omega arith) (subst (λ f. pos 16842766 <ℤ f) (sym H2) (ltZ-yes tt)) j h reached))

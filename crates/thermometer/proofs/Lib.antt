@@ -1,0 +1,6 @@
+pub mod Bounds
+pub mod Rises
+pub mod Places
+pub mod Ranges
+pub mod Answer
+pub mod Bench

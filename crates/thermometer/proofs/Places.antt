@@ -1,0 +1,27 @@
+-- The places 0 to 491,520 of the range of t: `unitsAt` counts its numbers from the lowest.
+use mathlib.Core.Path.{_≡_}
+use Prim.Native.Nat.{ℕ, _+_, _-_, _≤_}
+use native.Mathlib.Omega.{arith}
+use lib.IntN.{ℤ, pos}
+use lib.Signed.{_≤ℤ_}
+use Rattle.integers.proofs.Linear.{plus, minus, order, parts-equal, difference-parts}
+use Rattle.thermometer.specs.Rule.{unitsAt, InRange}
+
+pub place-in-range : {k : ℕ} → k ≤ 491520 → InRange (unitsAt k)
+place-in-range {k} h = record {
+  low = omega (arith, order, difference-parts (pos k) (pos 245760));
+  high = omega (arith, order, difference-parts (pos k) (pos 245760));
+}
+
+abbrev pub placeOf : ℤ → ℕ
+placeOf t = plus t + 245760 - minus t
+
+pub place-of : {t : ℤ} → InRange t → unitsAt (placeOf t) ≡ t
+place-of {t} range = parts-equal (unitsAt (placeOf t)) t (omega (arith, order, difference-parts (pos (placeOf t)) (pos 245760)))
+
+pub place-at-most : {t : ℤ} → InRange t → placeOf t ≤ 491520
+place-at-most {t} range = omega (arith, order)
+
+-- numbers are ordered as their places
+pub units-order : {i j : ℕ} → i ≤ j → unitsAt i ≤ℤ unitsAt j
+units-order {i} {j} h = omega (arith, order, difference-parts (pos i) (pos 245760), difference-parts (pos j) (pos 245760))

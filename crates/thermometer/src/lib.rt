@@ -1,0 +1,130 @@
+// Document 01, "Thermometer rule (equations 18, 19)" and "One thermometer".
+ghost use mathlib.Core.Path.{_≡_};
+ghost use Prim.Native.Nat.{_≤_, _<_};
+ghost use lib.Signed.{_≤ℤ_};
+ghost use Rattle.thermometer.specs.Rule.{M, F, answer, lowest, unitsAt, InRange};
+ghost use Rattle.thermometer.specs.Reading.{Admissible, resistanceInside, coefficientsInside, reading};
+use integers::floor_div;
+
+// What one thermometer gives: t in units of °C, or why there is none.
+pub enum Reading {
+    Units(i64),
+    CoefficientOutside,
+    PamNotAboveOffset,
+    RatioOutside,
+}
+
+// F(t), 2^24 times the ratio of the resistance at t to R0.
+fn ratio(alpha: u32, delta: u32, beta: u32, t: i64) -> i64
+    requires { ⌜ Admissible alpha delta beta × InRange t ⌝ }
+    ensures { λ f. ⌜ f ≡ F alpha delta beta t ⌝ }
+{
+    let q = t * (t - 409_600);
+    let s1 = floor_div(delta as i64 * q, 160_000_000_000);
+    let y = floor_div(q, 10_000);
+    let w = floor_div(t * t, 10_000);
+    let h = floor_div(y * w, 16_777_216);
+    let s2 = floor_div(beta as i64 * h, 16_000_000);
+    16_777_216 + floor_div(alpha as i64 * (256 * t - s1 - s2), 62_500_000)
+}
+
+// F at place k of the range of t.
+fn ratio_at(alpha: u32, delta: u32, beta: u32, k: u64) -> i64
+    requires { ⌜ Admissible alpha delta beta × (k ≤ 491520) ⌝ }
+    ensures { λ f. ⌜ f ≡ F alpha delta beta (unitsAt k) ⌝ }
+{
+    ratio(alpha, delta, beta, k as i64 - 245_760)
+}
+
+// The greatest t with F(t) at most m, by halving: F rises with t.
+fn greatest_units(alpha: u32, delta: u32, beta: u32, m: i64) -> i64
+    requires { ⌜ Admissible alpha delta beta × (F alpha delta beta lowest ≤ℤ m) ⌝ }
+    ensures { λ t. ⌜ t ≡ answer alpha delta beta m ⌝ }
+{
+    let mut reached: u64 = 0;
+    let mut past: u64 = 491_521;
+    while past - reached > 1 {
+        let middle = reached + (past - reached) / 2;
+        if ratio_at(alpha, delta, beta, middle) <= m {
+            reached = middle;
+        } else {
+            past = middle;
+        }
+    }
+    reached as i64 - 245_760
+}
+
+// M, 2^24 times the measured ratio.
+fn measured_ratio(rpam: u32, r0: u32, pam: u16, offset: u16, count: u16) -> i64
+    requires { ⌜ (rpam ≤ 4000000) × (0 < r0) × (r0 ≤ 4000000) × (offset < pam) × (offset ≤ count) ⌝ }
+    ensures { λ m. ⌜ m ≡ M rpam r0 pam offset count ⌝ }
+{
+    let above = (count - offset) as u64;
+    let span = (pam - offset) as u64;
+    (rpam as u64 * above * 16_777_216 / (span * r0 as u64)) as i64
+}
+
+// Whether R_PAM or an R0 is in its range.
+pub fn resistance_inside(r: u32) -> bool
+    ensures { λ b. ⌜ b ≡ resistanceInside r ⌝ }
+{
+    if r < 1_000 {
+        return false;
+    }
+    r <= 4_000_000
+}
+
+// Whether the coefficients of one thermometer are in their ranges.
+pub fn coefficients_inside(r0: u32, alpha: u32, delta: u32, beta: u32) -> bool
+    ensures { λ b. ⌜ b ≡ coefficientsInside r0 alpha delta beta ⌝ }
+{
+    if !resistance_inside(r0) {
+        return false;
+    }
+    if alpha < 3_000_000 {
+        return false;
+    }
+    if 5_000_000 < alpha {
+        return false;
+    }
+    if 2_000_000 < delta {
+        return false;
+    }
+    beta <= 500_000
+}
+
+// One thermometer: the tests in document 01's order, then the rule.
+pub fn thermometer(
+    rpam: u32,
+    r0: u32,
+    alpha: u32,
+    delta: u32,
+    beta: u32,
+    pam: u16,
+    offset: u16,
+    count: u16,
+) -> Reading
+    ensures { λ t. ⌜ t ≡ reading rpam r0 alpha delta beta pam offset count ⌝ }
+{
+    if !resistance_inside(rpam) {
+        return Reading::CoefficientOutside;
+    }
+    if !coefficients_inside(r0, alpha, delta, beta) {
+        return Reading::CoefficientOutside;
+    }
+    if pam <= offset {
+        return Reading::PamNotAboveOffset;
+    }
+    if count < offset {
+        return Reading::RatioOutside;
+    }
+    let m = measured_ratio(rpam, r0, pam, offset, count);
+    if m < ratio(alpha, delta, beta, -245_760) {
+        return Reading::RatioOutside;
+    }
+    if ratio(alpha, delta, beta, 245_760) < m {
+        return Reading::RatioOutside;
+    }
+    let t = greatest_units(alpha, delta, beta, m);
+    Reading::Units(t)
+}
