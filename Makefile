@@ -8,4 +8,4 @@ test:
 	@tools/test
 
 bench:
-	@echo "bench: nothing yet; the first measured operation is one thermometer"
+	@tools/bench

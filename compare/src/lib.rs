@@ -34,5 +34,7 @@ pub mod check;
 
 pub mod against;
 
+pub mod baseline;
+
 #[cfg(feature = "proved")]
 pub mod proved;

@@ -31,6 +31,7 @@ extern "C" {
         offset: u16,
         count: u16,
     ) -> i64;
+    fn compared_open(bytes: *const u8, length: usize) -> u8;
 }
 
 // Each wrapper tests what the proved function's `requires` asks.
@@ -114,10 +115,15 @@ pub fn thermometer(input: &ThermometerInput) -> Result<i32, u8> {
     Ok(coded as i32)
 }
 
+/// 0, or the number of the refusal.
+fn open(bytes: &[u8]) -> u8 {
+    unsafe { compared_open(bytes.as_ptr(), bytes.len()) }
+}
+
 type Comparison = fn(u64) -> Result<(), String>;
 
 /// The comparisons by the name that `--case` takes, and how many cases of each are run for a thousand.
-pub const KINDS: [(&str, Comparison, u64); 6] = [
+pub const KINDS: [(&str, Comparison, u64); 8] = [
     ("floor_div", |seed| against::divisions(seed, floor_div), 10),
     ("round", |seed| against::roundings(seed, round), 10),
     ("numbers", |seed| against::numbers(seed, numbers), 200),
@@ -132,6 +138,12 @@ pub const KINDS: [(&str, Comparison, u64); 6] = [
         |seed| against::thermometer(seed, thermometer),
         10_000,
     ),
+    ("table", |seed| against::table(seed, open), 1_000),
+    (
+        "neighbours",
+        |seed| against::all_table_neighbours(seed, open),
+        1,
+    ),
 ];
 
 /// Runs every comparison; the first difference is the error, with the command that repeats it.
@@ -140,7 +152,14 @@ pub fn run(seed: u64, thousands: u64) -> Result<(), String> {
         let master = case_seed(seed, number as u64);
         let cases = share * thousands;
         for index in 0..cases {
-            run_case(kind, comparison, case_seed(master, index))?;
+            // The first neighbours are those of the bench table.
+            let first_neighbours = kind == "neighbours" && index == 0;
+            let seed = if first_neighbours {
+                0
+            } else {
+                case_seed(master, index)
+            };
+            run_case(kind, comparison, seed)?;
         }
         println!("proved {kind}: {cases} cases agree");
     }

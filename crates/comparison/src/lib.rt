@@ -8,7 +8,9 @@ ghost use Rattle.integers.specs.Rounding.{floor, r};
 ghost use Rattle.fields.specs.Numbers.{u16At, u32At, i16At, i32At};
 ghost use Rattle.fields.specs.Fields.{headSize, fieldValue, layoutOf, layoutSize, layoutIsRight};
 ghost use Rattle.thermometer.specs.Reading.{reading};
+ghost use Rattle.table.specs.Opening.{refusal, opened};
 ghost use Rattle.comparison.specs.Coded.{coded};
+use table::Opening;
 use thermometer::Reading;
 
 #[no_mangle]
@@ -96,5 +98,20 @@ pub extern "C" fn compared_thermometer(
         Reading::CoefficientOutside => 1_000_008,
         Reading::PamNotAboveOffset => 1_000_009,
         Reading::RatioOutside => 1_000_010,
+    }
+}
+
+// 0, or the number of the refusal.
+#[no_mangle]
+pub extern "C" fn compared_open(bytes: &[u8]) -> u8
+    ensures { λ n. ⌜ n ≡ refusal (opened (now (bytes .entry)) .answer) ⌝ }
+{
+    let opened = table::open(bytes);
+    let answer = opened.answer;
+    match answer {
+        Opening::Accepted => 0,
+        Opening::LengthWrong => 1,
+        Opening::FieldWrong => 2,
+        Opening::ValueOutside => 3,
     }
 }

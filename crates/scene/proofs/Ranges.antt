@@ -1,0 +1,106 @@
+-- The range of every number on the way to a scene. For a channel's constants N is within 51,136,960,500 at every count; where it is not
+-- negative and 4N is at most 5D, X is within 81,920 and T within 1,832,984. The greatest is N(Tw - Tc), below 10^17, so each fits an i64.
+use mathlib.Core.List.{[], _∷_}
+use Prim.Native.Nat.{ℕ, _≤_}
+use lib.IntN.{ℤ, pos, negℤ, _+ℤ_, _-ℤ_, _*ℤ_}
+use lib.Signed.{_≤ℤ_, _<ℤ_, ltZ-yes}
+use Rattle.integers.specs.Rounding.{r}
+use Rattle.integers.specs.Bounds.{Bounded}
+use Rattle.integers.proofs.Ring.{_:-_, _:*_, opp, #, v0, v1, v2}
+use Rattle.integers.proofs.Certificate.{_:≤_, _:<_, hyp, nat, _⊕_, _⊗_, le-by}
+use Rattle.integers.proofs.Bounds.{bounded-sum, bounded-difference, bounded-product, bounded-not-negative, bounded-by-itself, natural-bounded}
+use Rattle.integers.proofs.Order.{below-at-most, product-not-negative}
+use Rattle.integers.proofs.Naturals.{natural-not-negative}
+use Rattle.integers.proofs.Nearest.{r-within-half, within-half-at-most, within-half-at-least}
+use Rattle.scene.specs.declared.Constants.{Constants}
+use Rattle.scene.specs.Temperature.{X, temperature}
+use Rattle.scene.specs.Scene.{ConstantsRange, numerator}
+
+-- r(a, b) stays between whole numbers that a / b is between
+pub r-bounded : (a : ℤ) {b m : ℤ} → pos 0 <ℤ b → Bounded a (m *ℤ b) → Bounded (r a b) m
+r-bounded a {b} {m} p h = record {
+  low = within-half-at-least p (r-within-half a p) (negℤ m) (le-by (a ∷ b ∷ m ∷ []) ((opp (v2 :* v1) :≤ v0) ∷ []) (opp v2 :* v1) v0 (hyp 0 ⊕ hyp 1) tt (h .low));
+  high = within-half-at-most p (r-within-half a p) m (h .high);
+}
+
+pub number-bounded : (n : ℕ) → Bounded (pos n) (pos n)
+number-bounded n = bounded-by-itself (natural-not-negative n)
+
+-- ---- the constants
+module _ {k : Constants} (h : ConstantsRange k) where
+  pub tc-bounded : Bounded (k .tc) (pos 43934)
+  tc-bounded = bounded-not-negative (le-by ((k .tc) ∷ []) ((# 11166 :≤ v0) ∷ []) (# 0) v0 (hyp 0 ⊕ hyp 1) tt (h .tc-low)) (h .tc-high)
+
+  pub rise-not-negative : pos 0 ≤ℤ k .rise
+  rise-not-negative = (le-by ((k .rise) ∷ []) ((# 825032 :≤ v0) ∷ []) (# 0) v0 (hyp 0 ⊕ hyp 1) tt (h .rise-low))
+
+  pub rise-bounded : Bounded (k .rise) (pos 1357512)
+  rise-bounded = bounded-not-negative rise-not-negative (h .rise-high)
+
+  pub d-bounded : Bounded (k .d) (pos 51136960500)
+  d-bounded = bounded-not-negative (below-at-most (h .d-low)) (h .d-high)
+
+  pub slope-bounded : Bounded (k .slope) (pos 780300)
+  slope-bounded = bounded-not-negative (h .slope-low) (h .slope-high)
+
+  pub base-bounded : Bounded (k .base) (pos 51136960500)
+  base-bounded = bounded-not-negative (h .base-low) (h .base-high)
+
+  -- ---- N at every count
+  module _ {count : ℕ} (c : count ≤ 65535) where
+    pub slope-count-bounded : Bounded (k .slope *ℤ pos count) (pos 51136960500)
+    slope-count-bounded = bounded-product slope-bounded (natural-bounded c)
+
+    pub numerator-bounded : Bounded (numerator k count) (pos 51136960500)
+    numerator-bounded = record {
+      low = (le-by ((k .slope *ℤ pos count) ∷ (k .base) ∷ []) ((# 0 :≤ v0) ∷ (v1 :≤ # 51136960500) ∷ []) (opp (# 51136960500)) (v0 :- v1) (hyp 0 ⊕ hyp 1 ⊕ hyp 2) tt slope-count-not-negative (h .base-high));
+      high = (le-by ((k .slope *ℤ pos count) ∷ (k .base) ∷ []) ((v0 :≤ # 51136960500) ∷ (# 0 :≤ v1) ∷ []) (v0 :- v1) (# 51136960500) (hyp 0 ⊕ hyp 1 ⊕ hyp 2) tt (slope-count-bounded .high) (h .base-low));
+    }
+      where
+        slope-count-not-negative : pos 0 ≤ℤ (k .slope *ℤ pos count)
+        slope-count-not-negative = product-not-negative (h .slope-low) (natural-not-negative count)
+
+    pub four-n-bounded : Bounded (pos 4 *ℤ numerator k count) (pos 204547842000)
+    four-n-bounded = bounded-product (number-bounded 4) numerator-bounded
+
+  pub five-d-bounded : Bounded (pos 5 *ℤ k .d) (pos 255684802500)
+  five-d-bounded = bounded-product (number-bounded 5) d-bounded
+
+  -- ---- the parts of T, where N is not negative and 4N is at most 5D
+  module _ {n : ℤ} (low : pos 0 ≤ℤ n) (high : (pos 4 *ℤ n) ≤ℤ (pos 5 *ℤ k .d)) where
+    pub n-bounded : Bounded n (pos 63921200625)
+    n-bounded = bounded-not-negative low (le-by (n ∷ (k .d) ∷ []) ((# 4 :* v0 :≤ # 5 :* v1) ∷ (v1 :≤ # 51136960500) ∷ []) v0 (# 63921200625) (nat 4 ⊗ hyp 0 ⊕ hyp 1 ⊕ nat 5 ⊗ hyp 2) tt high (h .d-high))
+
+    pub scaled-n-bounded : Bounded (pos 65536 *ℤ n) (pos 4189139804160000)
+    scaled-n-bounded = bounded-product (number-bounded 65536) n-bounded
+
+    pub x-bounded : Bounded (X n (k .d)) (pos 81920)
+    x-bounded = r-bounded (pos 65536 *ℤ n) (h .d-low) (bounded-not-negative (le-by (n ∷ []) ((# 0 :≤ v0) ∷ []) (# 0) (# 65536 :* v0) (hyp 0 ⊕ nat 65536 ⊗ hyp 1) tt low) (le-by (n ∷ (k .d) ∷ []) ((# 4 :* v0 :≤ # 5 :* v1) ∷ []) (# 65536 :* v0) (# 81920 :* v1) (hyp 0 ⊕ nat 16384 ⊗ hyp 1) tt high))
+
+    pub n-rise-bounded : Bounded (n *ℤ k .rise) (pos 86773796902845000)
+    n-rise-bounded = bounded-product n-bounded rise-bounded
+
+    pub linear-bounded : Bounded (r (n *ℤ k .rise) (k .d)) (pos 1696890)
+    linear-bounded = r-bounded (n *ℤ k .rise) (h .d-low) (bounded-not-negative (product-not-negative low rise-not-negative) (le-by (n ∷ (k .d) ∷ (k .rise) ∷ []) ((# 0 :< v1) ∷ (# 0 :≤ v2) ∷ (v2 :≤ # 1357512) ∷ (# 4 :* v0 :≤ # 5 :* v1) ∷ []) (v0 :* v2) (# 1696890 :* v1) (nat 4 ⊗ hyp 0 ⊕ nat 5 ⊗ hyp 3 ⊕ nat 5 ⊗ hyp 1 ⊗ hyp 3 ⊕ hyp 2 ⊗ hyp 4) tt (h .d-low) rise-not-negative (h .rise-high) high))
+
+    pub four-x-bounded : Bounded (pos 4 *ℤ X n (k .d)) (pos 327680)
+    four-x-bounded = bounded-product (number-bounded 4) x-bounded
+
+    pub rest-of-x-bounded : Bounded (pos 65536 -ℤ X n (k .d)) (pos 147456)
+    rest-of-x-bounded = bounded-difference (number-bounded 65536) x-bounded
+
+    pub x-product-bounded : Bounded (pos 4 *ℤ X n (k .d) *ℤ (pos 65536 -ℤ X n (k .d))) (pos 48318382080)
+    x-product-bounded = bounded-product four-x-bounded rest-of-x-bounded
+
+    pub x-tnl-bounded : Bounded (pos 4 *ℤ X n (k .d) *ℤ (pos 65536 -ℤ X n (k .d)) *ℤ k .tnl) (pos 395824185999360)
+    x-tnl-bounded = bounded-product x-product-bounded (h .tnl)
+
+    pub bend-bounded : Bounded (r (pos 4 *ℤ X n (k .d) *ℤ (pos 65536 -ℤ X n (k .d)) *ℤ k .tnl) (pos 4294967296)) (pos 92160)
+    bend-bounded = r-bounded (pos 4 *ℤ X n (k .d) *ℤ (pos 65536 -ℤ X n (k .d)) *ℤ k .tnl) (ltZ-yes tt) x-tnl-bounded
+
+    pub linear-sum-bounded : Bounded (k .tc +ℤ r (n *ℤ k .rise) (k .d)) (pos 1740824)
+    linear-sum-bounded = bounded-sum tc-bounded linear-bounded
+
+    pub temperature-bounded : Bounded (temperature (k .tc) (k .rise) (k .tnl) (k .d) n) (pos 1832984)
+    unfolding temperature
+    temperature-bounded = bounded-sum linear-sum-bounded bend-bounded

@@ -1,0 +1,171 @@
+-- `scene::scene_of` meets its contract. N and T are read back as themselves, so the four tests are those of the definition, and each
+-- branch gives the scene of its outcome; the guard makes T a natural number below 2^24. Assumes nothing.
+use mathlib.Core.Path.{_≡_, sym}
+use mathlib.Core.Bool.{Bool, true, false}
+use Prim.Native.Nat.{ℕ, _≤_}
+use native.Mathlib.Nat.{lt-of-le-of-lt}
+use native.Mathlib.Omega.{arith}
+use lib.Dec.{lit<}
+use lib.IntN.{pos, _-ℤ_, _*ℤ_}
+use lib.Signed.{ltZ, yes-nonNeg}
+use mir.Syntax.{w64}
+use mir.Val.{SFits, toZ, ofZ}
+use borrow.Author.Needs.{needs}
+use Rattle.integers.proofs.Naturals.{not-negative-is}
+use Rattle.integers.proofs.Order.{ltZ-false}
+use Rattle.integers.proofs.Machine.{bounded-fits, reads-back, result-reads-back, natural-reads-back}
+use Rattle.scene.specs.declared.Constants.{Constants}
+use Rattle.scene.specs.Scene.{ConstantsRange, numerator}
+use Rattle.scene.proofs.Ranges.{d-bounded, slope-bounded, base-bounded, slope-count-bounded, numerator-bounded, four-n-bounded, five-d-bounded}
+use Rattle.scene.proofs.Delivered.{temperatureOf, scene-negative, scene-above, scene-guard-low, scene-guard-high, scene-kelvin, WithinGuard, within-guard}
+use Rattle.scene.proofs.scene_of.Statement.{statement}
+use Rattle.scene.proofs.scene_of.Tie as tie
+
+module _ {k : Constants} {count : ℕ} (h : ConstantsRange k) (c : count ≤ 65535) where
+  slope-count-is : toZ w64 (ofZ w64 (k .slope)) *ℤ toZ w64 count ≡ k .slope *ℤ pos count
+  slope-count-is = rw (reads-back (bounded-fits (slope-bounded h) (lit< tt)), natural-reads-back count (omega arith))
+
+  slope-count-fits : SFits w64 (k .slope *ℤ pos count)
+  slope-count-fits = bounded-fits (slope-count-bounded h c) (lit< tt)
+
+  n-is : toZ w64 (ofZ w64 (toZ w64 (ofZ w64 (k .slope)) *ℤ toZ w64 count)) -ℤ toZ w64 (ofZ w64 (k .base)) ≡ numerator k count
+  n-is = rw (slope-count-is, reads-back slope-count-fits, reads-back (bounded-fits (base-bounded h) (lit< tt)))
+
+  n-fits : SFits w64 (numerator k count)
+  n-fits = bounded-fits (numerator-bounded h c) (lit< tt)
+
+  four-n-fits : SFits w64 (pos 4 *ℤ numerator k count)
+  four-n-fits = bounded-fits (four-n-bounded h c) (lit< tt)
+
+  d-fits : SFits w64 (k .d)
+  d-fits = bounded-fits (d-bounded h) (lit< tt)
+
+  five-d-fits : SFits w64 (pos 5 *ℤ k .d)
+  five-d-fits = bounded-fits (five-d-bounded h) (lit< tt)
+
+count-high : (s : tie.Start) → s .args .count ≤ 65535
+count-high s = omega arith
+
+cast-n : tie.Need-cast-n
+cast-n c = search needs
+
+mul-n : tie.Need-mul-n
+mul-n c = let s = c .before .before in rw (slope-count-is (s .pre) (count-high s)) (slope-count-fits (s .pre) (count-high s))
+
+sub-n : tie.Need-sub-n
+sub-n c = let s = c .before .before .before .before in rw (n-is (s .pre) (count-high s)) (n-fits (s .pre) (count-high s))
+
+returns : tie.Need-returns
+returns c =
+    let s = c .before .before .before .before .before in
+    scene-negative (s .args .k) (s .args .count) (rw (n-is (s .pre) (count-high s), reads-back (n-fits (s .pre) (count-high s))) at (c .if1 .taken))
+
+n-not-negative : (c : tie.Else1) → ltZ (numerator (c .before .before .before .before .before .args .k) (c .before .before .before .before .before .args .count)) (pos 0) ≡ false
+n-not-negative c =
+    let s = c .before .before .before .before .before in
+    rw (n-is (s .pre) (count-high s), reads-back (n-fits (s .pre) (count-high s))) at (c .if1 .left)
+
+mul-if2 : tie.Need-mul-if2
+mul-if2 c =
+    let s = c .before .before .before .before .before .before .before in
+    rw (reads-back (d-fits (s .pre) (count-high s))) (five-d-fits (s .pre) (count-high s))
+
+mul-if2-2 : tie.Need-mul-if2-2
+mul-if2-2 c =
+    let s = c .before .before .before .before .before .before .before in
+    rw (n-is (s .pre) (count-high s), reads-back (n-fits (s .pre) (count-high s))) (four-n-fits (s .pre) (count-high s))
+
+-- what the machine's second test says
+n-test : (s : tie.Start) (b : Bool)
+    → ltZ (toZ w64 (ofZ w64 (pos 5 *ℤ toZ w64 (ofZ w64 (s .args .k .d))))) (toZ w64 (ofZ w64 (pos 4 *ℤ toZ w64 (ofZ w64 (toZ w64 (ofZ w64 (toZ w64 (ofZ w64 (s .args .k .slope)) *ℤ toZ w64 (s .args .count))) -ℤ toZ w64 (ofZ w64 (s .args .k .base))))))) ≡ b
+    → ltZ (pos 5 *ℤ s .args .k .d) (pos 4 *ℤ numerator (s .args .k) (s .args .count)) ≡ b
+n-test s b e =
+    let h = s .pre in
+    let c = count-high s in
+    rw (reads-back (d-fits h c), reads-back (five-d-fits h c), n-is h c, reads-back (n-fits h c), reads-back (four-n-fits h c)) at e
+
+returns-2 : tie.Need-returns-2
+returns-2 c =
+    let s = c .before .before .before .before .before .before .before .before in
+    scene-above (s .args .k) (s .args .count) (n-not-negative (c .before .before .before)) (n-test s true (c .if2 .taken))
+
+module _ (c : tie.Else2) where
+  abbrev start : tie.Start
+  start = c .before .before .before .before .before .before .before .before
+
+  n-low : ltZ (numerator (start .args .k) (start .args .count)) (pos 0) ≡ false
+  n-low = n-not-negative (c .before .before .before)
+
+  n-high : ltZ (pos 5 *ℤ start .args .k .d) (pos 4 *ℤ numerator (start .args .k) (start .args .count)) ≡ false
+  n-high = n-test start false (c .if2 .left)
+
+units-requires : tie.Need-units-requires
+units-requires c κs =
+    let h = start c .pre in
+    let m = count-high (start c) in
+    rw (n-is h m, reads-back (n-fits h m)) (h, ltZ-false (n-low c), ltZ-false (n-high c))
+
+t-is : (c : tie.After-units) → c .units .result ≡ temperatureOf (start (c .before) .args .k) (start (c .before) .args .count)
+t-is c =
+    let h = start (c .before) .pre in
+    let m = count-high (start (c .before)) in
+    rw (n-is h m, reads-back (n-fits h m)) at (c .units .ensures)
+
+returns-3 : tie.Need-returns-3
+returns-3 c =
+    let u = c .before in
+    let s = start (u .before) in
+    scene-guard-low (s .args .k) (s .args .count) (n-low (u .before)) (n-high (u .before)) (rw (result-reads-back (u .units .result) (u .units .ok), t-is u) at (c .if3 .taken))
+
+t-low : (c : tie.Else3) → ltZ (temperatureOf (start (c .before .before) .args .k) (start (c .before .before) .args .count)) (pos 1) ≡ false
+t-low c = let u = c .before in rw (result-reads-back (u .units .result) (u .units .ok), t-is u) at (c .if3 .left)
+
+returns-4 : tie.Need-returns-4
+returns-4 c =
+    let u = c .before .before in
+    let s = start (u .before) in
+    scene-guard-high (s .args .k) (s .args .count) (n-low (u .before)) (n-high (u .before)) (t-low (c .before))
+    (rw (result-reads-back (u .units .result) (u .units .ok), t-is u) at (c .if4 .taken))
+
+module _ (c : tie.Else4) where
+  t-high : ltZ (pos 16777215) (temperatureOf (start (c .before .before .before) .args .k) (start (c .before .before .before) .args .count)) ≡ false
+  t-high = let u = c .before .before in rw (result-reads-back (u .units .result) (u .units .ok), t-is u) at (c .if4 .left)
+
+  t-within : WithinGuard (temperatureOf (start (c .before .before .before) .args .k) (start (c .before .before .before) .args .count))
+  t-within = within-guard (ltZ-false (t-low (c .before))) (ltZ-false t-high)
+
+cast-kelvin-of : tie.Need-cast-kelvin-of
+cast-kelvin-of c =
+    let u = c .before .before in
+    rw (result-reads-back (u .units .result) (u .units .ok), t-is u) (yes-nonNeg (not-negative-is _ (sym (t-within c .same))), record { fits = lt-of-le-of-lt (t-within c .high) (lit< tt) })
+
+kelvin-of-requires : tie.Need-kelvin-of-requires
+kelvin-of-requires c κs =
+    let u = c .before .before in
+    rw (result-reads-back (u .units .result) (u .units .ok), t-is u) (t-within c .low, t-within c .high)
+
+returns-5 : tie.Need-returns-5
+returns-5 c =
+    let f = c .before in
+    let u = f .before .before in
+    let s = start (u .before) in
+    rw (c .kelvin-of .ensures, result-reads-back (u .units .result) (u .units .ok), t-is u)
+    (scene-kelvin (s .args .k) (s .args .count) (n-low (u .before)) (n-high (u .before)) (t-low (f .before)) (t-high f))
+
+pub scene-of-spec : {M : Type 1} → statement M
+scene-of-spec =
+    tie.close
+    (tie.spec
+    cast-n
+    mul-n
+    sub-n
+    returns
+    mul-if2
+    mul-if2-2
+    returns-2
+    units-requires
+    returns-3
+    returns-4
+    cast-kelvin-of
+    kelvin-of-requires
+    returns-5)

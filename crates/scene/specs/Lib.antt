@@ -1,0 +1,3 @@
+pub mod Temperature
+pub mod Scene
+pub mod Unrounded

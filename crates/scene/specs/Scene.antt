@@ -1,0 +1,59 @@
+-- Document 01, "Scenes": a scene is either a temperature in kelvin or a mark.
+use Prim.Native.Nat.{ℕ, _*_, _/_}
+use mathlib.Core.Bool.{true, false, cond}
+use lib.IntN.{ℤ, pos, natAbs, _-ℤ_, _*ℤ_}
+use lib.Signed.{_≤ℤ_, _<ℤ_}
+use lib.Ieee.{Float, nan, inf, fin, binary32, round, toBits, up, down}
+use Rattle.integers.specs.Bounds.{Bounded}
+use Rattle.scene.specs.declared.Scene.{Scene}
+use Rattle.scene.specs.declared.Scene.the-variants.{Kelvin, Flagged, Outside, Guard}
+use Rattle.scene.specs.declared.Constants.{Constants}
+use Rattle.scene.specs.Temperature.{outside, temperature, guardFails}
+
+-- the f32 nearest to t / 4096, which for t from 1 to 16,777,215 is t / 4096 itself (law `kelvin-exact`)
+unfoldable pub kelvin : ℕ → Float
+unfolding round
+kelvin t = round binary32 false t 4096
+
+-- the value of each case: the temperature; or -1.0 (flagged channel), -2.0 (outside), -3.0 (guard)
+abbrev pub value : Scene → Float
+value (Kelvin x) = x
+value Flagged = fin true 1 (pos 0)
+value Outside = fin true 1 (pos 1)
+value Guard = fin true 3 (pos 0)
+
+unfoldable pub bits : Scene → ℕ
+unfolding toBits
+bits s = toBits binary32 (value s)
+
+-- 4096 times the size of a finite float, which is a whole number of units for every delivered scene
+abbrev pub units : Float → ℕ
+units nan = 0
+units (inf s) = 0
+units (fin s m e) = m * up e * 4096 / down e
+
+-- ---- the scene of a count in a channel with flag 0. Of its channel a scene needs Tc, rise = Tw - Tc, TNL, D, slope = 12 × Wc × Ww
+-- and base = Ac × Ww alone: N = slope × C - base
+abbrev pub numerator : Constants → ℕ → ℤ
+numerator k count = k .slope *ℤ pos count -ℤ k .base
+
+unfoldable pub sceneOf : Constants → ℕ → Scene
+unfolding kelvin temperature
+sceneOf k count =
+    let n = numerator k count in
+    let t = temperature (k .tc) (k .rise) (k .tnl) (k .d) n in
+    cond (outside n (k .d)) Outside (cond (guardFails t) Guard (Kelvin (kelvin (natAbs t))))
+
+-- ---- what the constants of a channel with flag 0 under an accepted table keep to
+pub record ConstantsRange (k : Constants) : Type 0 where
+  pub tc-low : pos 11166 ≤ℤ k .tc
+  pub tc-high : k .tc ≤ℤ pos 43934
+  pub rise-low : pos 825032 ≤ℤ k .rise
+  pub rise-high : k .rise ≤ℤ pos 1357512
+  pub tnl : Bounded (k .tnl) (pos 8192)
+  pub d-low : pos 0 <ℤ k .d
+  pub d-high : k .d ≤ℤ pos 51136960500
+  pub slope-low : pos 0 ≤ℤ k .slope
+  pub slope-high : k .slope ≤ℤ pos 780300
+  pub base-low : pos 0 ≤ℤ k .base
+  pub base-high : k .base ≤ℤ pos 51136960500

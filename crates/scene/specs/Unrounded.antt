@@ -1,0 +1,31 @@
+-- Document 01, "Scenes" and document 004, equations 25 to 29: the unrounded temperature as a fraction.
+use lib.IntN.{ℤ, pos, _*ℤ_}
+use Rattle.integers.specs.Fractions.{Fraction, _/ᶠ_, whole, _+ᶠ_, _-ᶠ_, _*ᶠ_, _÷ᶠ_}
+
+-- the unrounded Tw leaves out r: sum of v p T over sum of v p, and b
+abbrev pub unroundedTw : (weighted weights b : ℤ) → Fraction
+unroundedTw weighted weights b = weighted /ᶠ weights +ᶠ whole b
+
+-- E is Tc + x(Tw - Tc) + 4x(1 - x) TNL with Tw unrounded
+abbrev pub E : (x tw tc tnl : Fraction) → Fraction
+E x tw tc tnl = tc +ᶠ x *ᶠ (tw -ᶠ tc) +ᶠ whole (pos 4) *ᶠ x *ᶠ (whole (pos 1) -ᶠ x) *ᶠ tnl
+
+-- ---- equations 25 to 29 one by one; cw and cc are the mean warm and cold counts, c is the scene's count
+abbrev pub gain : (cw cc tw tc : Fraction) → Fraction
+gain cw cc tw tc = (cw -ᶠ cc) ÷ᶠ (tw -ᶠ tc)
+
+abbrev pub linear : (cw cc tw tc c : Fraction) → Fraction
+linear cw cc tw tc c = tw +ᶠ (c -ᶠ cw) ÷ᶠ gain cw cc tw tc
+
+abbrev pub relative : (cw cc tw tc c : Fraction) → Fraction
+relative cw cc tw tc c = (linear cw cc tw tc c -ᶠ tc) ÷ᶠ (tw -ᶠ tc)
+
+abbrev pub quadratic : (x tnl : Fraction) → Fraction
+quadratic x tnl = whole (pos 4) *ᶠ x *ᶠ (whole (pos 1) -ᶠ x) *ᶠ tnl
+
+abbrev pub corrected : (cw cc tw tc tnl c : Fraction) → Fraction
+corrected cw cc tw tc tnl c = linear cw cc tw tc c +ᶠ quadratic (relative cw cc tw tc c) tnl
+
+-- the mean warm or cold count: A / (12 W)
+abbrev pub meanCount : (A W : ℤ) → Fraction
+meanCount a w = a /ᶠ (pos 12 *ℤ w)

@@ -1,0 +1,4 @@
+pub mod Answers
+pub mod Rows
+pub mod Ranges
+pub mod OpeningLaws

@@ -1,0 +1,115 @@
+-- `open` meets its contract: each return is what the tests that led there make of `opened`, and the copy of 741 bytes is the bytes.
+use Prim.Native.Nat.{ℕ, _≤_}
+use native.Mathlib.Omega.{arith}
+use native.Mathlib.Nat.{le-refl}
+use mathlib.Core.Path.{_≡_, refl, ap, sym, _∙_}
+use mathlib.Core.List.{List, _++_, append-nil}
+use lib.ListN.{length, take, drop, drop-of-length-le}
+use lib.Seq.{take-all}
+use denote.Ref.{now}
+use borrow.Author.Needs.{needs}
+use Rattle.fields.specs.Fields.{layoutIsRight, layoutSize}
+use Rattle.table.specs.declared.Opened.{Opened}
+use Rattle.table.specs.declared.Opening.the-variants.{Accepted}
+use Rattle.table.specs.Settings.{tableLayout}
+use Rattle.table.specs.Opening.{ages}
+use Rattle.table.proofs.Answers.{test-passed, test-failed}
+use Rattle.table.proofs.OpeningLaws.{lent-layout, opened-length-wrong, opened-field-wrong, opened-value-outside, opened-whole}
+use Rattle.table.proofs.open.Statement.{statement}
+use Rattle.table.proofs.open.Tie as tie
+
+abbrev accepted : List ℕ → Opened
+accepted bytes = record { answer = Accepted; table = record { bytes = bytes } }
+
+-- a list that is copied over one as long
+copied-whole : (src dst out : List ℕ) → length src ≡ length dst → out ≡ take (length src) src ++ drop (length src) dst → out ≡ src
+copied-whole src dst out long copied =
+    let room : length dst ≤ length src = omega arith in
+    copied ∙ rw (take-all (length src) src (le-refl (length src)), drop-of-length-le dst room) (append-nil src)
+
+layout-answers : (c : tie.After-layout-is-right)
+    → c .layout-is-right .result ≡ layoutIsRight (now (c .before .before .before .before .before .args .bytes)) 0 (tableLayout ages)
+layout-answers c = c .layout-is-right .ensures ∙ ap (layoutIsRight (now (c .before .before .before .before .before .args .bytes)) 0) lent-layout
+
+refused-requires : tie.Need-refused-requires
+refused-requires c κs = search needs
+
+returns : tie.Need-returns
+returns c = c .refused .ensures ∙ sym (opened-length-wrong (now (c .before .before .before .args .bytes)) (c .before .if1 .taken))
+
+slice-aggregate-layout-is-right : tie.Need-slice-aggregate-layout-is-right
+slice-aggregate-layout-is-right c = refl
+
+slice-aggregate-layout-is-right-2 : tie.Need-slice-aggregate-layout-is-right-2
+slice-aggregate-layout-is-right-2 c = refl
+
+layout-is-right-requires : tie.Need-layout-is-right-requires
+layout-is-right-requires c κs = (refl, rw (ap layoutSize lent-layout) (omega arith))
+
+refused-requires-2 : tie.Need-refused-requires-2
+refused-requires-2 c κs = search needs
+
+returns-2 : tie.Need-returns-2
+returns-2 c =
+    let l = c .before .before in
+    c .refused2 .ensures
+    ∙ sym (opened-field-wrong (now (l .before .before .before .before .before .args .bytes)) (l .before .before .before .if1 .left) (test-failed (layout-answers l) (c .before .if2 .taken)))
+
+values-inside-requires : tie.Need-values-inside-requires
+values-inside-requires c κs = search needs
+
+refused-requires-3 : tie.Need-refused-requires-3
+refused-requires-3 c κs = search needs
+
+returns-3 : tie.Need-returns-3
+returns-3 c =
+    let v = c .before .before in
+    let second = v .before in
+    let l = second .before in
+    c .refused3 .ensures
+    ∙ sym
+    (opened-value-outside
+    (now (l .before .before .before .before .before .args .bytes))
+    (l .before .before .before .if1 .left)
+    (test-passed (layout-answers l) (second .if2 .left))
+    (test-failed (v .values-inside .ensures) (c .before .if3 .taken)))
+
+slice-aggregate-copy : tie.Need-slice-aggregate-copy
+slice-aggregate-copy c = refl
+
+copy-requires : tie.Need-copy-requires
+copy-requires c κs = search needs
+
+returns-4 : tie.Need-returns-4
+returns-4 c =
+    let third = c .before .before .before in
+    let v = third .before in
+    let second = v .before in
+    let l = second .before in
+    let long = l .before .before .before .if1 .left in
+    let bytes = now (l .before .before .before .before .before .args .bytes) in
+    ap accepted (copied-whole bytes _ _ long (c .before .copy2 .ensures .1))
+    ∙ sym
+    (opened-whole
+    bytes
+    long
+    (test-passed (layout-answers l) (second .if2 .left))
+    (test-passed (v .values-inside .ensures) (third .if3 .left)))
+
+pub open-spec : {M : Type 1} → statement M
+open-spec =
+    tie.close
+    (tie.spec
+    refused-requires
+    returns
+    slice-aggregate-layout-is-right
+    slice-aggregate-layout-is-right-2
+    layout-is-right-requires
+    refused-requires-2
+    returns-2
+    values-inside-requires
+    refused-requires-3
+    returns-3
+    slice-aggregate-copy
+    copy-requires
+    returns-4)

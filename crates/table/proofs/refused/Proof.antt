@@ -1,0 +1,12 @@
+-- `refused` meets its contract: the array is `noTable`'s list.
+use mathlib.Core.Path.{refl}
+use Rattle.table.specs.Opening.{noTable}
+use Rattle.table.proofs.refused.Statement.{statement}
+use Rattle.table.proofs.refused.Tie as tie
+
+returns : tie.Need-returns
+unfolding noTable
+returns c = refl
+
+pub refused-spec : {M : Type 1} → statement M
+refused-spec = tie.close (tie.spec returns)

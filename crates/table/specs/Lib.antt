@@ -1,0 +1,3 @@
+pub mod Settings
+pub mod Ranges
+pub mod Opening

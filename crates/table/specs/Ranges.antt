@@ -1,0 +1,111 @@
+-- Document 01, "The table": the range of each value and of each sum, in the table's order.
+use Prim.Native.Nat.{ℕ, _+_, _≤_, _<_}
+use mathlib.Core.Bool.{Bool, _&&_}
+use lib.Dec.{leb}
+use lib.IntN.{ℤ, pos, negℤ}
+use lib.Signed.{leZ, _≤ℤ_}
+use Rattle.integers.specs.Bounds.{Bounded}
+use Rattle.lists.specs.Count.{every}
+use Rattle.lists.specs.Sum.{sum}
+use Rattle.thermometer.specs.Reading.{fromTo, resistanceInside, coefficientsInside, Admissible}
+use Rattle.table.specs.declared.Target.{Target}
+use Rattle.table.specs.declared.Target.the-variants.{Kav, Wg}
+use Rattle.table.specs.declared.Thermometer.{Thermometer}
+use Rattle.table.specs.Settings.{Channel, Settings, thermometers, channels}
+
+-- from -m to m
+abbrev pub sizeTo : ℕ → ℤ → Bool
+sizeTo m z = leZ (negℤ (pos m)) z && leZ z (pos m)
+
+-- percentages 1..100, least good thermometers 1..8 and 1..7
+unfoldable pub leastsInside : Settings → Bool
+leastsInside s =
+    fromTo 1 100 (s .percentThermometers)
+    && (fromTo 1 100 (s .percentWarm)
+    && (fromTo 1 100 (s .percentCold)
+    && (fromTo 1 8 (s .leastKav)
+    && fromTo 1 7 (s .leastWg))))
+
+-- R_PAM, T_low and T_upp -245,760..245,760 with low not above upp, dT 0..491,520
+unfoldable pub thermometerLimitsInside : Settings → Bool
+thermometerLimitsInside s =
+    resistanceInside (s .rPam)
+    && (sizeTo 245760 (s .tLow)
+    && (sizeTo 245760 (s .tUpp)
+    && (leZ (s .tLow) (s .tUpp)
+    && leb (s .dT) 491520)))
+
+abbrev pub thermometerInside : Thermometer → Bool
+thermometerInside t = coefficientsInside (t .r0) (t .alpha) (t .delta) (t .beta)
+
+-- limits with low not above upp; b -4,096..4,096; rj and sl 0..16,384; TNL -8,192..8,192
+unfoldable pub channelInside : Channel → Bool
+channelInside c =
+    leb (c .warm .low) (c .warm .upp)
+    && (leb (c .cold .low) (c .cold .upp)
+    && (sizeTo 4096 (c .b)
+    && (leb (c .rj) 16384
+    && (leb (c .sl) 16384
+    && sizeTo 8192 (c .tnl)))))
+
+-- thermometers 1..8 are KAV and 9..15 are WG: the first of a target, counted from 0, and how many it has
+abbrev pub firstOf : Target → ℕ
+firstOf Kav = 0
+firstOf Wg = 8
+
+abbrev pub sizeOf : Target → ℕ
+sizeOf Kav = 8
+sizeOf Wg = 7
+
+-- the sum of the p of a target
+abbrev pub weightOf : Settings → Target → ℕ
+weightOf s target = sum (λ i. s .thermometer (firstOf target + i) .p) (sizeOf target)
+
+-- the w sum to 1..255, so do the v, so do the p of each target
+unfoldable pub sumsInside : Settings → Bool
+sumsInside s =
+    fromTo 1 255 (sum (s .w) (s .ages))
+    && (fromTo 1 255 (sum (s .v) (s .ages))
+    && (fromTo 1 255 (weightOf s Kav)
+    && fromTo 1 255 (weightOf s Wg)))
+
+unfoldable pub valuesInside : Settings → Bool
+valuesInside s =
+    leastsInside s
+    && (thermometerLimitsInside s
+    && (every (λ i. thermometerInside (s .thermometer i)) thermometers
+    && (every (λ c. channelInside (s .channel c)) channels
+    && sumsInside s)))
+
+-- ---- the same as orders, which every later range rests on
+abbrev pub Between : ℕ → ℕ → ℕ → Type 0
+Between low high x = (low ≤ x) × (x ≤ high)
+
+pub record ThermometerRange (t : Thermometer) : Type 0 where
+  pub r0 : Between 1000 4000000 (t .r0)
+  pub coefficients : Admissible (t .alpha) (t .delta) (t .beta)
+
+pub record ChannelRange (c : Channel) : Type 0 where
+  pub warm : c .warm .low ≤ c .warm .upp
+  pub cold : c .cold .low ≤ c .cold .upp
+  pub b : Bounded (c .b) (pos 4096)
+  pub rj : c .rj ≤ 16384
+  pub sl : c .sl ≤ 16384
+  pub tnl : Bounded (c .tnl) (pos 8192)
+
+pub record SettingsRange (s : Settings) : Type 0 where
+  pub percentThermometers : Between 1 100 (s .percentThermometers)
+  pub percentWarm : Between 1 100 (s .percentWarm)
+  pub percentCold : Between 1 100 (s .percentCold)
+  pub leastKav : Between 1 8 (s .leastKav)
+  pub leastWg : Between 1 7 (s .leastWg)
+  pub rPam : Between 1000 4000000 (s .rPam)
+  pub tLow : Bounded (s .tLow) (pos 245760)
+  pub tUpp : Bounded (s .tUpp) (pos 245760)
+  pub tOrder : s .tLow ≤ℤ s .tUpp
+  pub dT : s .dT ≤ 491520
+  pub thermometer : (i : ℕ) → i < thermometers → ThermometerRange (s .thermometer i)
+  pub channel : (c : ℕ) → c < channels → ChannelRange (s .channel c)
+  pub sumW : Between 1 255 (sum (s .w) (s .ages))
+  pub sumV : Between 1 255 (sum (s .v) (s .ages))
+  pub sumP : (target : Target) → Between 1 255 (weightOf s target)

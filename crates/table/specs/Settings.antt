@@ -1,0 +1,112 @@
+-- Document 01, "The table, 741 bytes": what a table's bytes say. `ages` is how many scans the window has; document 01 has 8.
+-- Thermometers and channels are counted from 0 here: thermometer i is document 01's number i + 1, and so is channel c.
+use Prim.Native.Nat.{ℕ, _+_, _*_}
+use mathlib.Core.List.{List, [], _∷_}
+use lib.IntN.{ℤ}
+use lib.ListN.{getD}
+use Rattle.fields.specs.Numbers.{u16At, u32At, i16At, i32At}
+use Rattle.fields.specs.Fields.{Field, valueStart}
+use Rattle.table.specs.declared.Side.{Side}
+use Rattle.table.specs.declared.Side.the-variants.{Warm, Cold}
+use Rattle.table.specs.declared.Target.{Target}
+use Rattle.table.specs.declared.Target.the-variants.{Kav, Wg}
+use Rattle.table.specs.declared.Limits.{Limits}
+use Rattle.table.specs.declared.Thermometer.{Thermometer}
+
+-- the fields 0x10, 0x11 and 0x12
+abbrev pub tableLayout : ℕ → List Field
+tableLayout ages =
+    record { tag = 0x10; size = 2 * ages + 21 }
+    ∷ record { tag = 0x11; size = 255 }
+    ∷ record { tag = 0x12; size = 440 }
+    ∷ []
+
+abbrev pub thermometers : ℕ
+thermometers = 15
+
+abbrev pub channels : ℕ
+channels = 22
+
+-- one channel's row of 0x12
+pub record Channel : Type 0 where
+  pub warm : Limits
+  pub cold : Limits
+  pub b : ℤ
+  pub rj : ℕ
+  pub sl : ℕ
+  pub tnl : ℤ
+
+pub record Settings : Type 0 where
+  pub ages : ℕ
+  -- w and v, by age
+  pub w : ℕ → ℕ
+  pub v : ℕ → ℕ
+  -- least percentages
+  pub percentThermometers : ℕ
+  pub percentWarm : ℕ
+  pub percentCold : ℕ
+  -- least good thermometers
+  pub leastKav : ℕ
+  pub leastWg : ℕ
+  pub rPam : ℕ
+  pub tLow : ℤ
+  pub tUpp : ℤ
+  pub dT : ℕ
+  pub thermometer : ℕ → Thermometer
+  pub channel : ℕ → Channel
+
+-- ---- where each value stands
+abbrev pub limitsAt : List ℕ → ℕ → Limits
+limitsAt table at = record {
+  low = u16At table at;
+  upp = u16At table (at + 2);
+  difference = u16At table (at + 4);
+}
+
+abbrev pub thermometerAt : List ℕ → ℕ → Thermometer
+thermometerAt table at = record {
+  p = getD table at 0;
+  r0 = u32At table (at + 1);
+  alpha = u32At table (at + 5);
+  delta = u32At table (at + 9);
+  beta = u32At table (at + 13);
+}
+
+abbrev pub channelAt : List ℕ → ℕ → Channel
+channelAt table at = record {
+  warm = limitsAt table at;
+  cold = limitsAt table (at + 6);
+  b = i16At table (at + 12);
+  rj = u16At table (at + 14);
+  sl = u16At table (at + 16);
+  tnl = i16At table (at + 18);
+}
+
+abbrev pub settingsOf : ℕ → List ℕ → Settings
+settingsOf ages table =
+    let start = valueStart (tableLayout ages) 0 in
+    record {
+      ages = ages;
+      w = λ k. getD table (start + k) 0;
+      v = λ k. getD table (start + ages + k) 0;
+      percentThermometers = getD table (start + 2 * ages) 0;
+      percentWarm = getD table (start + 2 * ages + 1) 0;
+      percentCold = getD table (start + 2 * ages + 2) 0;
+      leastKav = getD table (start + 2 * ages + 3) 0;
+      leastWg = getD table (start + 2 * ages + 4) 0;
+      rPam = u32At table (start + 2 * ages + 5);
+      tLow = i32At table (start + 2 * ages + 9);
+      tUpp = i32At table (start + 2 * ages + 13);
+      dT = u32At table (start + 2 * ages + 17);
+      thermometer = λ i. thermometerAt table (valueStart (tableLayout ages) 1 + 17 * i);
+      channel = λ c. channelAt table (valueStart (tableLayout ages) 2 + 20 * c);
+    }
+
+-- the limits of a channel's side, and the least number of a target
+abbrev pub limitsOf : Channel → Side → Limits
+limitsOf c Warm = c .warm
+limitsOf c Cold = c .cold
+
+abbrev pub leastOf : Settings → Target → ℕ
+leastOf s Kav = s .leastKav
+leastOf s Wg = s .leastWg
