@@ -5,7 +5,7 @@
 
 use std::fmt::Debug;
 
-use crate::acceptance::{accepted_samples, AcceptedSamples};
+use crate::acceptance::{accepted_samples, AcceptedCount, AcceptedSamples};
 use crate::bytes::{field, i16_at, i32_at, layout_is_right, u16_at, u32_at};
 use crate::calibrator::judge;
 use crate::check::lists::{outcomes, Outcome};
@@ -118,6 +118,42 @@ pub fn thermometer(
     let input = thermometer_input(seed);
     let this = one_thermometer(&input.reading(), &input.coefficients());
     same(input, other(&input).map(|t| t as i128), this)
+}
+
+/// What a scan keeps of its accepted samples: of each warm side, then each cold, 0 where no count is
+/// accepted, else one more than the scan value; of each thermometer T, 0 where it is not accepted.
+fn kept(samples: &AcceptedSamples) -> Vec<u32> {
+    let side = |counts: &Vec<AcceptedCount>| {
+        let sum: u32 = counts.iter().map(|count| count.count as u32).sum();
+        match counts.len() {
+            0 => 0,
+            n => 12 * sum / n as u32 + 1,
+        }
+    };
+    let mut values: Vec<u32> = samples.warm.iter().map(side).collect();
+    values.extend(samples.cold.iter().map(side));
+    let mut kelvin = vec![0; 15];
+    for thermometer in &samples.thermometers {
+        kelvin[thermometer.number - 1] = thermometer.temperature as u32;
+    }
+    values.extend(kelvin);
+    values
+}
+
+/// What the scan of each accepted record of a list keeps, given the bytes of table and record.
+pub fn kept_values(seed: u64, other: impl Fn(&[u8], &[u8]) -> Vec<u32>) -> Result<(), String> {
+    let list = feed_list(seed);
+    let table = open(&list.table).expect("a list has an accepted table");
+    let mut roll: Vec<ScanRecord> = Vec::new();
+    for (index, feed) in list.feeds.iter().enumerate() {
+        if let Ok(record) = judge(&roll, &feed.record, feed.buffer.len()) {
+            let this = kept(&accepted_samples(&table, &record));
+            let about = format!("feed {} of the list", index + 1);
+            same(about, other(&list.table, &feed.record), this)?;
+            roll.push(record);
+        }
+    }
+    Ok(())
 }
 
 /// The accepted samples of each accepted record of a list, given the bytes of table and record.

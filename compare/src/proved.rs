@@ -32,6 +32,13 @@ extern "C" {
         count: u16,
     ) -> i64;
     fn compared_open(bytes: *const u8, length: usize) -> u8;
+    fn compared_kept(
+        table: *const u8,
+        table_length: usize,
+        scan: *const u8,
+        scan_length: usize,
+        k: usize,
+    ) -> u32;
 }
 
 // Each wrapper tests what the proved function's `requires` asks.
@@ -120,10 +127,22 @@ fn open(bytes: &[u8]) -> u8 {
     unsafe { compared_open(bytes.as_ptr(), bytes.len()) }
 }
 
+const RECORD_LAYOUT: [(u8, usize); 5] = [(1, 4), (2, 34), (3, 176), (4, 176), (5, 4_224)];
+
+/// The 59 values that a scan keeps of its accepted samples.
+fn kept(table: &[u8], scan: &[u8]) -> Vec<u32> {
+    assert!(table.len() == 741 && scan.len() == 4_629);
+    assert!(layout_is_right(scan, &RECORD_LAYOUT));
+    let (table_start, scan_start) = (table.as_ptr(), scan.as_ptr());
+    (0..59)
+        .map(|k| unsafe { compared_kept(table_start, table.len(), scan_start, scan.len(), k) })
+        .collect()
+}
+
 type Comparison = fn(u64) -> Result<(), String>;
 
 /// The comparisons by the name that `--case` takes, and how many cases of each are run for a thousand.
-pub const KINDS: [(&str, Comparison, u64); 8] = [
+pub const KINDS: [(&str, Comparison, u64); 9] = [
     ("floor_div", |seed| against::divisions(seed, floor_div), 10),
     ("round", |seed| against::roundings(seed, round), 10),
     ("numbers", |seed| against::numbers(seed, numbers), 200),
@@ -144,6 +163,7 @@ pub const KINDS: [(&str, Comparison, u64); 8] = [
         |seed| against::all_table_neighbours(seed, open),
         1,
     ),
+    ("kept", |seed| against::kept_values(seed, kept), 30),
 ];
 
 /// Runs every comparison; the first difference is the error, with the command that repeats it.

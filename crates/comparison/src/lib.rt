@@ -8,8 +8,13 @@ ghost use Rattle.integers.specs.Rounding.{floor, r};
 ghost use Rattle.fields.specs.Numbers.{u16At, u32At, i16At, i32At};
 ghost use Rattle.fields.specs.Fields.{headSize, fieldValue, layoutOf, layoutSize, layoutIsRight};
 ghost use Rattle.thermometer.specs.Reading.{reading};
-ghost use Rattle.table.specs.Opening.{refusal, opened};
-ghost use Rattle.comparison.specs.Coded.{coded};
+ghost use mathlib.Core.Bool.{true};
+ghost use Rattle.table.specs.Settings.{settingsOf};
+ghost use Rattle.table.specs.Opening.{ages, refusal, opened};
+ghost use Rattle.acceptance.specs.Record.{recordLayout};
+ghost use Rattle.acceptance.specs.Accepted.{acceptedSamples};
+ghost use Rattle.acceptance.specs.Kept.{keptScan};
+ghost use Rattle.comparison.specs.Coded.{coded, keptAt};
 use table::Opening;
 use thermometer::Reading;
 
@@ -114,4 +119,23 @@ pub extern "C" fn compared_open(bytes: &[u8]) -> u8
         Opening::FieldWrong => 2,
         Opening::ValueOutside => 3,
     }
+}
+
+// Value k of what a scan keeps: 22 of the warm sides, 22 of the cold, 15 of the thermometers.
+#[no_mangle]
+pub extern "C" fn compared_kept(table: &[u8], scan: &[u8], k: usize) -> u32
+    requires { ⌜ (length (now table) ≡ 741) × (length (now scan) ≡ 4629) × (layoutIsRight (now scan) 0 recordLayout ≡ true) × (k < 59) ⌝ }
+    ensures { λ n. ⌜ n ≡ keptAt (keptScan (acceptedSamples (settingsOf ages (now (table .entry))) (now (scan .entry)))) k ⌝ }
+{
+    let kept = acceptance::accepted_scan(table, scan);
+    let warm = kept.warm;
+    let cold = kept.cold;
+    let kelvin = kept.kelvin;
+    if k < 22 {
+        return warm[k];
+    }
+    if k < 44 {
+        return cold[k - 22];
+    }
+    kelvin[k - 44]
 }
