@@ -1,7 +1,7 @@
 -- Document 01, "The table": the range of each value and of each sum, in the table's order.
 use Prim.Native.Nat.{ℕ, _+_, _≤_, _<_}
-use mathlib.Core.Bool.{Bool, _&&_}
-use lib.Dec.{leb}
+use mathlib.Core.Bool.{Bool, _&&_, cond}
+use lib.Dec.{leb, ltb}
 use lib.IntN.{ℤ, pos, negℤ}
 use lib.Signed.{leZ, _≤ℤ_}
 use Rattle.integers.specs.Bounds.{Bounded}
@@ -56,6 +56,10 @@ firstOf Wg = 8
 abbrev pub sizeOf : Target → ℕ
 sizeOf Kav = 8
 sizeOf Wg = 7
+
+-- KAV serves channels 1..15, WG 16..22; channels are counted from 0
+abbrev pub targetOf : ℕ → Target
+targetOf c = cond (ltb c 15) Kav Wg
 
 -- the sum of the p of a target
 abbrev pub weightOf : Settings → Target → ℕ

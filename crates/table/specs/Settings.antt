@@ -12,6 +12,7 @@ use Rattle.table.specs.declared.Target.{Target}
 use Rattle.table.specs.declared.Target.the-variants.{Kav, Wg}
 use Rattle.table.specs.declared.Limits.{Limits}
 use Rattle.table.specs.declared.Thermometer.{Thermometer}
+use Rattle.table.specs.declared.Corrections.{Corrections}
 
 -- the fields 0x10, 0x11 and 0x12
 abbrev pub tableLayout : ℕ → List Field
@@ -110,3 +111,11 @@ limitsOf c Cold = c .cold
 abbrev pub leastOf : Settings → Target → ℕ
 leastOf s Kav = s .leastKav
 leastOf s Wg = s .leastWg
+
+-- the least percentage of a side, and what a channel's temperatures are corrected by
+abbrev pub percentOf : Settings → Side → ℕ
+percentOf s Warm = s .percentWarm
+percentOf s Cold = s .percentCold
+
+abbrev pub correctionsOf : Channel → Corrections
+correctionsOf c = record { b = c .b; rj = c .rj; sl = c .sl; tnl = c .tnl }

@@ -5,8 +5,8 @@ ghost use lib.ListN.{length, getD};
 ghost use Rattle.lists.specs.Sum.{sum};
 ghost use Rattle.lists.specs.Count.{every};
 ghost use Rattle.thermometer.specs.Reading.{fromTo};
-ghost use Rattle.table.specs.Settings.{settingsOf, channelAt, thermometerAt, limitsAt, limitsOf, leastOf, thermometers, channels};
-ghost use Rattle.table.specs.Ranges.{sizeTo, leastsInside, thermometerLimitsInside, thermometerInside, channelInside, sumsInside, valuesInside};
+ghost use Rattle.table.specs.Settings.{settingsOf, channelAt, thermometerAt, limitsAt, limitsOf, leastOf, percentOf, correctionsOf, thermometers, channels};
+ghost use Rattle.table.specs.Ranges.{sizeTo, leastsInside, thermometerLimitsInside, thermometerInside, channelInside, sumsInside, valuesInside, firstOf, sizeOf, weightOf, targetOf};
 ghost use Rattle.table.specs.Opening.{ages, opened, noTable};
 
 // An opened table. Only `open` makes one.
@@ -54,6 +54,14 @@ pub struct Thermometer {
     pub alpha: u32,
     pub delta: u32,
     pub beta: u32,
+}
+
+// What a channel's temperatures are corrected by.
+pub struct Corrections {
+    pub b: i64,
+    pub rj: u16,
+    pub sl: u16,
+    pub tnl: i64,
 }
 
 const TAGS: [u8; 3] = [0x10, 0x11, 0x12];
@@ -304,6 +312,108 @@ pub fn least_of(table: &[u8], target: Target) -> u8
         Target::Kav => table[22],
         Target::Wg => table[23],
     }
+}
+
+// ---- what the window needs
+
+// w of age k, and v.
+pub fn count_weight(table: &[u8], k: usize) -> u8
+    requires { ⌜ (length (now table) ≡ 741) × (k < ages) ⌝ }
+    ensures { λ r. ⌜ r ≡ settingsOf ages (now (table .entry)) .w k ⌝ }
+{
+    table[3 + k]
+}
+
+pub fn thermometer_weight(table: &[u8], k: usize) -> u8
+    requires { ⌜ (length (now table) ≡ 741) × (k < ages) ⌝ }
+    ensures { λ r. ⌜ r ≡ settingsOf ages (now (table .entry)) .v k ⌝ }
+{
+    table[11 + k]
+}
+
+// The sums of the w, of the v and of the p of a target.
+pub fn sum_w(table: &[u8]) -> u32
+    requires { ⌜ length (now table) ≡ 741 ⌝ }
+    ensures { λ r. ⌜ r ≡ sum (settingsOf ages (now (table .entry)) .w) ages ⌝ }
+{
+    byte_sum(table, 3, 1, 8)
+}
+
+pub fn sum_v(table: &[u8]) -> u32
+    requires { ⌜ length (now table) ≡ 741 ⌝ }
+    ensures { λ r. ⌜ r ≡ sum (settingsOf ages (now (table .entry)) .v) ages ⌝ }
+{
+    byte_sum(table, 11, 1, 8)
+}
+
+pub fn sum_p(table: &[u8], target: Target) -> u32
+    requires { ⌜ length (now table) ≡ 741 ⌝ }
+    ensures { λ r. ⌜ r ≡ weightOf (settingsOf ages (now (table .entry))) target ⌝ }
+{
+    match target {
+        Target::Kav => byte_sum(table, 43, 17, 8),
+        Target::Wg => byte_sum(table, 179, 17, 7),
+    }
+}
+
+// The least percentages.
+pub fn percent_thermometers(table: &[u8]) -> u8
+    requires { ⌜ length (now table) ≡ 741 ⌝ }
+    ensures { λ r. ⌜ r ≡ settingsOf ages (now (table .entry)) .percentThermometers ⌝ }
+{
+    table[19]
+}
+
+pub fn percent_of(table: &[u8], side: Side) -> u8
+    requires { ⌜ length (now table) ≡ 741 ⌝ }
+    ensures { λ r. ⌜ r ≡ percentOf (settingsOf ages (now (table .entry))) side ⌝ }
+{
+    match side {
+        Side::Warm => table[20],
+        Side::Cold => table[21],
+    }
+}
+
+// b, rj, sl and TNL of channel c.
+pub fn corrections_of(table: &[u8], c: usize) -> Corrections
+    requires { ⌜ (length (now table) ≡ 741) × (c < channels) ⌝ }
+    ensures { λ r. ⌜ r ≡ correctionsOf (settingsOf ages (now (table .entry)) .channel c) ⌝ }
+{
+    let start = 301 + 20 * c;
+    Corrections {
+        b: fields::i16_at(table, start + 12),
+        rj: fields::u16_at(table, start + 14),
+        sl: fields::u16_at(table, start + 16),
+        tnl: fields::i16_at(table, start + 18),
+    }
+}
+
+// A target's first thermometer, how many it has, and the target that serves channel c.
+pub fn first_of(target: Target) -> usize
+    ensures { λ n. ⌜ n ≡ firstOf target ⌝ }
+{
+    match target {
+        Target::Kav => 0,
+        Target::Wg => 8,
+    }
+}
+
+pub fn size_of(target: Target) -> usize
+    ensures { λ n. ⌜ n ≡ sizeOf target ⌝ }
+{
+    match target {
+        Target::Kav => 8,
+        Target::Wg => 7,
+    }
+}
+
+pub fn target_of(c: usize) -> Target
+    ensures { λ t. ⌜ t ≡ targetOf c ⌝ }
+{
+    if c < 15 {
+        return Target::Kav;
+    }
+    Target::Wg
 }
 
 // A refusal gives no table: its bytes are all 0.

@@ -1,5 +1,4 @@
-//! The operations as one would write them by hand in plain Rust with i64, to measure speed against.
-//! Their answers are compared with the second implementation in the tests below.
+//! Thermometer rule, and the operation One thermometer.
 
 const LOWEST: i64 = -245_760;
 const HIGHEST: i64 = 245_760;

@@ -1,0 +1,25 @@
+//! The operations as one would write them by hand in plain Rust with i64, to measure speed against.
+//!
+//! Nothing here is shared with the second implementation; the tests compare the answers with it.
+
+mod bytes;
+
+mod thermometer;
+
+mod table;
+
+mod acceptance;
+
+mod window;
+
+mod scene;
+
+mod product;
+
+mod calibrator;
+
+pub use calibrator::Calibrator;
+pub use product::write_product;
+pub use scene::{scene_bits, Constants};
+pub use table::{open, Table};
+pub use thermometer::thermometer;
