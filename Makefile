@@ -2,7 +2,7 @@
 .PHONY: run test bench
 
 run:
-	@echo "run: nothing yet; the listing program comes with the calibrator"
+	@tools/run
 
 test:
 	@tools/test

@@ -1,6 +1,10 @@
 //! The proved functions, called through the static library of the crate `comparison`, against this
 //! implementation. Nothing checks the declarations below against the proved source, so they are few.
 
+use std::io::Write;
+use std::path::Path;
+use std::process::{Command, Stdio};
+
 use crate::against;
 use crate::generator::random::case_seed;
 use crate::generator::thermometers::ThermometerInput;
@@ -139,10 +143,36 @@ fn kept(table: &[u8], scan: &[u8]) -> Vec<u32> {
         .collect()
 }
 
+/// What the proved listing program prints, run in a folder of its own.
+fn listing(table: Option<&[u8]>, input: &[u8]) -> String {
+    let program = Path::new(env!("CARGO_MANIFEST_DIR")).join("../target/bin/listing");
+    let folder = std::env::temp_dir().join(format!("listing-{}", std::process::id()));
+    std::fs::create_dir_all(&folder).expect("a temporary folder");
+    let file = folder.join("table.bin");
+    match table {
+        Some(bytes) => std::fs::write(&file, bytes).expect("a temporary file"),
+        None => drop(std::fs::remove_file(&file)),
+    }
+    let mut child = Command::new(program)
+        .current_dir(&folder)
+        .stdin(Stdio::piped())
+        .stdout(Stdio::piped())
+        .spawn()
+        .expect("the listing program is built");
+    let mut stdin = child.stdin.take().expect("a pipe");
+    let bytes = input.to_vec();
+    // A refused table ends the program before it has read its input.
+    let writer = std::thread::spawn(move || drop(stdin.write_all(&bytes)));
+    let output = child.wait_with_output().expect("the program ends");
+    writer.join().expect("the input is written");
+    drop(std::fs::remove_dir_all(&folder));
+    String::from_utf8(output.stdout).expect("lines of text")
+}
+
 type Comparison = fn(u64) -> Result<(), String>;
 
 /// The comparisons by the name that `--case` takes, and how many cases of each are run for a thousand.
-pub const KINDS: [(&str, Comparison, u64); 9] = [
+pub const KINDS: [(&str, Comparison, u64); 10] = [
     ("floor_div", |seed| against::divisions(seed, floor_div), 10),
     ("round", |seed| against::roundings(seed, round), 10),
     ("numbers", |seed| against::numbers(seed, numbers), 200),
@@ -164,6 +194,7 @@ pub const KINDS: [(&str, Comparison, u64); 9] = [
         1,
     ),
     ("kept", |seed| against::kept_values(seed, kept), 30),
+    ("listing", |seed| against::listings(seed, listing), 30),
 ];
 
 /// Runs every comparison; the first difference is the error, with the command that repeats it.

@@ -35,7 +35,7 @@ opening bytes =
 pub record AcceptedTable (bytes : List ℕ) : Type 0 where
   pub accepted : opening bytes ≡ Accepted
 
--- a refusal gives no table: 741 bytes of 0 stand beside it, of which `AcceptedTable` does not hold (decision 18)
+-- a refusal gives no table: 741 bytes of 0 stand beside it, of which `AcceptedTable` does not hold (decision 21)
 unfoldable pub noTable : Opening → Opened
 noTable answer = record { answer = answer; table = record { bytes = replicate 741 0 } }
 

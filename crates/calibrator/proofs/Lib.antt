@@ -1,0 +1,9 @@
+pub mod Verdicts
+pub mod AcceptedLaws
+pub mod FedLaws
+pub mod RollLaws
+pub mod SceneClaims
+pub mod AlikeLaws
+pub mod HistoryLaws
+pub mod RestartLaws
+pub mod Demand

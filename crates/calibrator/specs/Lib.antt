@@ -1,0 +1,5 @@
+pub mod Refusals
+pub mod Feeding
+pub mod Roll
+pub mod Promise
+pub mod Restart

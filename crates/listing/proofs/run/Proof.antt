@@ -1,0 +1,46 @@
+-- `listing::run` meets its contract. Each turn hands back a sound calibrator, and the number of turns falls. Assumes nothing.
+use borrow.Author.Needs.{needs}
+use Rattle.calibrator.specs.Feeding.{Sound}
+use Rattle.listing.proofs.run.Statement.{statement}
+use Rattle.listing.proofs.run.Tie as tie
+
+abbrev Inv-loop : tie.InvT-loop
+Inv-loop state₀ turns₀ state turns = Sound state
+
+abbrev μ-loop : tie.MeasureT-loop
+μ-loop state₀ turns₀ state turns = turns
+
+loop-holds : tie.Need-loop-holds Inv-loop μ-loop
+loop-holds c = search needs
+
+turn-requires : tie.Need-turn-requires Inv-loop μ-loop
+turn-requires c κs = search needs
+
+sub-turns : tie.Need-sub-turns Inv-loop μ-loop
+sub-turns c = search needs
+
+loop-less : tie.Need-loop-less Inv-loop μ-loop
+loop-less c = search needs
+
+loop-again : tie.Need-loop-again Inv-loop μ-loop
+loop-again c = search needs
+
+returns : tie.Need-returns Inv-loop μ-loop
+returns c = search needs
+
+returns-2 : tie.Need-returns-2 Inv-loop μ-loop
+returns-2 c = search needs
+
+pub run-spec : {M : Type 1} → statement M
+run-spec =
+    tie.close
+    (tie.spec
+    Inv-loop
+    μ-loop
+    loop-holds
+    turn-requires
+    sub-turns
+    loop-less
+    loop-again
+    returns
+    returns-2)

@@ -1,0 +1,7 @@
+pub mod Elements
+pub mod Lengths
+pub mod SceneLaws
+pub mod Plain
+pub mod SummaryLaws
+pub mod Marks
+pub mod Bytes

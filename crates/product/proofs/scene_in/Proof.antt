@@ -1,0 +1,20 @@
+-- `scene_in` meets its contract: the test on the flag is that of `sceneIn`, and with flag 0 the constants are in their ranges.
+use mathlib.Core.Path.{_∙_}
+use borrow.Author.Tests.{eq-eqb, ne-eqb}
+use Rattle.product.specs.Scenes.{sceneIn}
+use Rattle.product.proofs.scene_in.Statement.{statement}
+use Rattle.product.proofs.scene_in.Tie as tie
+
+returns : tie.Need-returns
+unfolding sceneIn
+returns c = simp (ne-eqb _ _ (c .if1 .taken))
+
+scene-of-requires : tie.Need-scene-of-requires
+scene-of-requires c κs = c .before .before .before .pre .constants (c .before .if1 .left)
+
+returns-2 : tie.Need-returns-2
+unfolding sceneIn
+returns-2 c = c .scene-of .ensures ∙ simp (eq-eqb _ _ (c .before .before .if1 .left))
+
+pub scene-in-spec : {M : Type 1} → statement M
+scene-in-spec = tie.close (tie.spec returns scene-of-requires returns-2)

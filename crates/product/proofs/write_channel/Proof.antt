@@ -1,0 +1,145 @@
+-- `write_channel` meets its contract. The loop's invariant: the first i scenes stand at the front as their bits, the rest is as it was, and
+-- the summary is that of the first i scenes.
+use Prim.Native.Nat.{ℕ, _-_, _*_, _≤_}
+use native.Mathlib.Omega.{arith}
+use mathlib.Core.Path.{_≡_, refl, sym, ap, subst, _∙_}
+use mathlib.Core.List.{List}
+use mathlib.Core.Bool.{not}
+use lib.Dec.{T}
+use lib.ListN.{length}
+use lib.Ieee.{isNan}
+use denote.Ref.{now}
+use Rattle.lists.specs.Build.{put, filled}
+use Rattle.lists.proofs.Cells.{filled-none, filled-more, filled-all}
+use Rattle.scene.specs.declared.Scene.{Scene}
+use Rattle.scene.specs.Scene.{value, bits}
+use Rattle.window.specs.declared.Channel.{Channel}
+use Rattle.product.specs.declared.Summary.{Summary}
+use Rattle.product.specs.Scenes.{sceneIn, sceneAt}
+use Rattle.product.specs.Summary.{withScene, summaryTo}
+use Rattle.product.specs.Product.{u32Bytes, channelScenes}
+use Rattle.product.proofs.SceneLaws.{scene-in-not-nan}
+use Rattle.product.proofs.SummaryLaws.{summary-to-none, summary-to-more, count-at-most}
+use borrow.Author.Needs.{needs}
+use Rattle.product.proofs.write_channel.Statement.{statement}
+use Rattle.product.proofs.write_channel.Tie as tie
+
+abbrev bytesAt : Channel → List ℕ → ℕ → List ℕ
+bytesAt channel part i = u32Bytes (bits (sceneAt channel part i))
+
+abbrev Inv-loop : tie.InvT-loop
+Inv-loop out₀ channel part summary₀ i₀ out summary i =
+    (i ≤ 96)
+    × (length out ≡ 384)
+    × (summary ≡ summaryTo (sceneAt channel part) i)
+    × (out ≡ filled (bytesAt channel part) 4 i out₀)
+
+abbrev μ-loop : tie.MeasureT-loop
+μ-loop out₀ channel part summary₀ i₀ out summary i = 96 - i
+
+none-requires : tie.Need-none-requires Inv-loop μ-loop
+none-requires c κs = tt
+
+loop-holds : tie.Need-loop-holds Inv-loop μ-loop
+loop-holds c =
+    let a = c .before .before .before .args in (
+      search needs,
+      search needs,
+      c .none .ensures ∙ sym (summary-to-none (sceneAt (a .channel) (now (a .part)))),
+      filled-none (bytesAt (a .channel) (now (a .part))) 4 (now (a .out)),
+    )
+
+mul-u16-at : tie.Need-mul-u16-at Inv-loop μ-loop
+mul-u16-at c = omega arith
+
+u16-at-requires : tie.Need-u16-at-requires Inv-loop μ-loop
+u16-at-requires c κs = search needs
+
+scene-in-requires : tie.Need-scene-in-requires Inv-loop μ-loop
+scene-in-requires c κs = search needs
+
+mul-put-u32 : tie.Need-mul-put-u32 Inv-loop μ-loop
+mul-put-u32 c = omega arith
+
+bits-of-requires : tie.Need-bits-of-requires Inv-loop μ-loop
+bits-of-requires c κs =
+    let s = c .before in
+    subst (λ (x : Scene). T (not (isNan (value x)))) (sym (s .scene-in .ensures)) (scene-in-not-nan _ (s .before .u16-at .result))
+
+put-u32-requires : tie.Need-put-u32-requires Inv-loop μ-loop
+put-u32-requires c κs = search needs
+
+with-scene-requires : tie.Need-with-scene-requires Inv-loop μ-loop
+with-scene-requires c κs =
+    let l = c .before .before .before .before .before .before .before .before in
+    let a = l .before .before .before .before .args in
+    let small : l .loop .summary .count ≤ l .loop .i = rw (l .loop .inv .2) (count-at-most (sceneAt (a .channel) (now (a .part))) (l .loop .i)) in
+    omega (arith, l)
+
+add-i : tie.Need-add-i Inv-loop μ-loop
+add-i c = omega arith
+
+loop-less : tie.Need-loop-less Inv-loop μ-loop
+loop-less c = omega arith
+
+loop-again : tie.Need-loop-again Inv-loop μ-loop
+loop-again c =
+    let w = c .before .before .before in
+    let s = w .before .before .before in
+    let l = s .before .before .before in
+    let a = l .before .before .before .before .args in
+    let scenes = sceneAt (a .channel) (now (a .part)) in
+    let bytes = bytesAt (a .channel) (now (a .part)) in
+    let i = l .loop .i in
+    let scene : s .scene-in .result ≡ scenes i = s .scene-in .ensures ∙ ap (sceneIn (a .channel)) (s .before .u16-at .ensures) in
+    let place : 4 * i ≡ i * 4 = omega arith in (
+      omega arith,
+      w .put-u32 .kept .0 ∙ l .loop .inv .1,
+      c .with-scene .ensures
+          ∙ ap (withScene (l .loop .summary)) scene
+          ∙ ap (λ (s : Summary). withScene s (scenes i)) (l .loop .inv .2)
+          ∙ sym (summary-to-more scenes i),
+      w .put-u32 .ensures
+          ∙ ap (λ (n : ℕ). put (l .loop .out) (4 * i) (u32Bytes n)) (w .before .bits-of .ensures ∙ ap bits scene)
+          ∙ ap (λ (n : ℕ). put (l .loop .out) n (bytes i)) place
+          ∙ ap (λ (o : List ℕ). put o (i * 4) (bytes i)) (l .loop .inv .3)
+          ∙ filled-more bytes 4 (λ _. refl) i (now (a .out)),
+    )
+
+same-length : tie.Need-same-length Inv-loop μ-loop
+same-length c = search needs
+
+returns : tie.Need-returns Inv-loop μ-loop
+unfolding channelScenes
+returns c =
+    let l = c .before in
+    let a = l .before .before .before .before .args in
+    let scenes = sceneAt (a .channel) (now (a .part)) in
+    let bytes = bytesAt (a .channel) (now (a .part)) in
+    let last : l .loop .i ≡ 96 = omega arith in (
+      l .loop .inv .2 ∙ ap (summaryTo scenes) last,
+      l .loop .inv .3
+          ∙ ap (λ (n : ℕ). filled bytes 4 n (now (a .out))) last
+          ∙ filled-all bytes 4 96 (now (a .out)) (omega arith),
+    )
+
+pub write-channel-spec : {M : Type 1} → statement M
+write-channel-spec =
+    tie.close
+    (tie.spec
+    Inv-loop
+    μ-loop
+    none-requires
+    loop-holds
+    mul-u16-at
+    u16-at-requires
+    scene-in-requires
+    mul-put-u32
+    bits-of-requires
+    put-u32-requires
+    with-scene-requires
+    add-i
+    loop-less
+    loop-again
+    same-length
+    returns)

@@ -1,0 +1,4 @@
+pub mod Scenes
+pub mod Summary
+pub mod Product
+pub mod Steps
