@@ -7,3 +7,5 @@ pub mod AlikeLaws
 pub mod HistoryLaws
 pub mod RestartLaws
 pub mod Demand
+pub mod FeedListLaws
+pub mod BenchRows

@@ -10,11 +10,12 @@ ghost use Rattle.fields.specs.Fields.{headSize, fieldValue, layoutOf, layoutSiz
 ghost use Rattle.thermometer.specs.Reading.{reading};
 ghost use mathlib.Core.Bool.{true};
 ghost use Rattle.table.specs.Settings.{settingsOf};
-ghost use Rattle.table.specs.Opening.{ages, refusal, opened};
+ghost use Rattle.table.specs.Opening.{ages, refusal, opening, opened};
 ghost use Rattle.acceptance.specs.Record.{recordLayout};
 ghost use Rattle.acceptance.specs.Accepted.{acceptedSamples};
 ghost use Rattle.acceptance.specs.Kept.{keptScan};
-ghost use Rattle.comparison.specs.Coded.{coded, keptAt};
+ghost use Rattle.comparison.specs.Coded.{coded, keptAt, answersBy, buffersBy};
+use calibrator::Calibrator;
 use table::Opening;
 use thermometer::Reading;
 
@@ -138,4 +139,37 @@ pub extern "C" fn compared_kept(table: &[u8], scan: &[u8], k: usize) -> u32
         return cold[k - 22];
     }
     kelvin[k - 44]
+}
+
+// Opens the table and, where it is accepted, feeds a fresh calibrator the list: 0, or the number of the refusal.
+#[no_mangle]
+pub extern "C" fn compared_feed_list(
+    table: &[u8],
+    scans: &[u8],
+    sizes: &[u32],
+    buffers: &mut [u8],
+    rooms: &[u32],
+    answers: &mut [u8],
+) -> u8
+    ensures { λ n. ⌜ (n ≡ refusal (opening (now (table .entry)))) × (now (answers .exit) ≡ answersBy (opening (now (table .entry))) (now (table .entry)) (now (scans .entry)) (now (sizes .entry)) (now (buffers .entry)) (now (rooms .entry)) (now (answers .entry))) × (now (buffers .exit) ≡ buffersBy (opening (now (table .entry))) (now (table .entry)) (now (scans .entry)) (now (sizes .entry)) (now (buffers .entry)) (now (rooms .entry)) (length (now (answers .entry)))) ⌝ }
+{
+    let opened = table::open(table);
+    let answer = opened.answer;
+    let accepted = opened.table;
+    match answer {
+        Opening::Accepted => {
+            calibrator::feed_list(
+                Calibrator::fresh(accepted),
+                scans,
+                sizes,
+                buffers,
+                rooms,
+                answers,
+            );
+            0
+        }
+        Opening::LengthWrong => 1,
+        Opening::FieldWrong => 2,
+        Opening::ValueOutside => 3,
+    }
 }
