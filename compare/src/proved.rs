@@ -6,6 +6,8 @@ use std::path::Path;
 use std::process::{Command, Stdio};
 
 use crate::against;
+use crate::check::lists::Outcome;
+use crate::generator::lists::FeedList;
 use crate::generator::random::case_seed;
 use crate::generator::thermometers::ThermometerInput;
 
@@ -43,6 +45,20 @@ extern "C" {
         scan_length: usize,
         k: usize,
     ) -> u32;
+    fn compared_feed_list(
+        table: *const u8,
+        table_length: usize,
+        scans: *const u8,
+        scans_length: usize,
+        sizes: *const u32,
+        size_count: usize,
+        buffers: *mut u8,
+        buffers_length: usize,
+        rooms: *const u32,
+        room_count: usize,
+        answers: *mut u8,
+        answer_count: usize,
+    ) -> u8;
 }
 
 // Each wrapper tests what the proved function's `requires` asks.
@@ -143,6 +159,68 @@ fn kept(table: &[u8], scan: &[u8]) -> Vec<u32> {
         .collect()
 }
 
+/// A list of feeds as the proved function takes it: the records and the buffers each one after the other.
+pub struct LaidOut {
+    pub table: Vec<u8>,
+    pub scans: Vec<u8>,
+    pub sizes: Vec<u32>,
+    pub buffers: Vec<u8>,
+    pub rooms: Vec<u32>,
+    pub answers: Vec<u8>,
+}
+
+impl LaidOut {
+    /// The answers are filled with a number that no feed is answered with.
+    pub fn of(list: &FeedList) -> LaidOut {
+        let feeds = &list.feeds;
+        LaidOut {
+            table: list.table.clone(),
+            scans: feeds.iter().flat_map(|feed| feed.record.clone()).collect(),
+            sizes: feeds.iter().map(|feed| feed.record.len() as u32).collect(),
+            buffers: feeds.iter().flat_map(|feed| feed.buffer.clone()).collect(),
+            rooms: feeds.iter().map(|feed| feed.buffer.len() as u32).collect(),
+            answers: vec![77; feeds.len()],
+        }
+    }
+
+    /// Feeds the list to a fresh calibrator: 0, or the number of the table's refusal.
+    pub fn feed(&mut self) -> u8 {
+        unsafe {
+            compared_feed_list(
+                self.table.as_ptr(),
+                self.table.len(),
+                self.scans.as_ptr(),
+                self.scans.len(),
+                self.sizes.as_ptr(),
+                self.sizes.len(),
+                self.buffers.as_mut_ptr(),
+                self.buffers.len(),
+                self.rooms.as_ptr(),
+                self.rooms.len(),
+                self.answers.as_mut_ptr(),
+                self.answers.len(),
+            )
+        }
+    }
+}
+
+/// What each feed of a list left.
+fn feeds(list: &FeedList) -> Vec<Outcome> {
+    let mut laid_out = LaidOut::of(list);
+    assert_eq!(laid_out.feed(), 0, "a list has an accepted table");
+    let mut rest = &laid_out.buffers[..];
+    let mut outcomes = Vec::new();
+    for (answer, room) in laid_out.answers.iter().zip(&laid_out.rooms) {
+        let (buffer, after) = rest.split_at(*room as usize);
+        rest = after;
+        outcomes.push(Outcome {
+            answer: *answer,
+            buffer: buffer.to_vec(),
+        });
+    }
+    outcomes
+}
+
 /// What the proved listing program prints, run in a folder of its own.
 fn listing(table: Option<&[u8]>, input: &[u8]) -> String {
     let program = Path::new(env!("CARGO_MANIFEST_DIR")).join("../target/bin/listing");
@@ -172,7 +250,7 @@ fn listing(table: Option<&[u8]>, input: &[u8]) -> String {
 type Comparison = fn(u64) -> Result<(), String>;
 
 /// The comparisons by the name that `--case` takes, and how many cases of each are run for a thousand.
-pub const KINDS: [(&str, Comparison, u64); 10] = [
+pub const KINDS: [(&str, Comparison, u64); 11] = [
     ("floor_div", |seed| against::divisions(seed, floor_div), 10),
     ("round", |seed| against::roundings(seed, round), 10),
     ("numbers", |seed| against::numbers(seed, numbers), 200),
@@ -194,6 +272,7 @@ pub const KINDS: [(&str, Comparison, u64); 10] = [
         1,
     ),
     ("kept", |seed| against::kept_values(seed, kept), 30),
+    ("feeds", |seed| against::feeds(seed, feeds), 80),
     ("listing", |seed| against::listings(seed, listing), 30),
 ];
 

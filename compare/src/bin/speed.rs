@@ -4,9 +4,13 @@ use std::hint::black_box;
 use std::time::Instant;
 
 use compare::baseline;
-use compare::generator::random::case_seed;
+use compare::generator::lists::{Feed, FeedList};
+use compare::generator::random::{case_seed, Random};
+use compare::generator::records::RecordValues;
+use compare::generator::tables::TableValues;
 use compare::generator::thermometers::{thermometer_input, ThermometerInput};
-use compare::proved;
+use compare::product::LENGTH;
+use compare::proved::{self, LaidOut};
 
 /// The least time of several rounds, in nanoseconds a call. The two take turns in each round.
 fn least_times(
@@ -70,6 +74,68 @@ fn thermometers() {
     );
 }
 
+/// Consecutive bench scans with earth counts at random between the cold and the warm counts, so that
+/// from the eighth on the window is full and most scenes are delivered.
+fn scans(count: usize) -> FeedList {
+    let mut random = Random::new(1);
+    let mut values = RecordValues::bench();
+    let feeds = (1..=count)
+        .map(|number| {
+            values.number = number as u32;
+            let mut record = values.encode();
+            for earth in record[405..].chunks_exact_mut(2) {
+                earth.copy_from_slice(&(random.between(10_000, 20_000) as u16).to_be_bytes());
+            }
+            Feed {
+                record,
+                buffer: vec![0; LENGTH],
+            }
+        })
+        .collect();
+    FeedList {
+        table: TableValues::bench().encode(),
+        feeds,
+    }
+}
+
+/// Feeds a list by the hand-written calibrator, from the same bytes into buffers laid out alike.
+fn baseline_feeds(list: &LaidOut, buffers: &mut [u8]) {
+    let table = baseline::open(&list.table).expect("the bench table is accepted");
+    let mut calibrator = baseline::Calibrator::fresh(table);
+    let (mut scans, mut buffers) = (&list.scans[..], buffers);
+    for (size, room) in list.sizes.iter().zip(&list.rooms) {
+        let (record, later_scans) = scans.split_at(*size as usize);
+        let (buffer, later_buffers) = buffers.split_at_mut(*room as usize);
+        let _ = black_box(calibrator.feed(record, buffer));
+        (scans, buffers) = (later_scans, later_buffers);
+    }
+}
+
+fn feeds(count: usize, rounds: usize) {
+    let mut list = LaidOut::of(&scans(count));
+    let by_hand = LaidOut::of(&scans(count));
+    let mut buffers = by_hand.buffers.clone();
+    let (proved_time, baseline_time) = least_times(
+        rounds,
+        count,
+        || assert_eq!(black_box(list.feed()), 0),
+        || baseline_feeds(black_box(&by_hand), &mut buffers),
+    );
+    assert!(list.answers.iter().all(|answer| *answer == 0));
+    assert!(
+        list.buffers == buffers,
+        "both calibrators give the same products"
+    );
+    let (proved_time, baseline_time) = (proved_time / 1_000.0, baseline_time / 1_000.0);
+    let ratio = proved_time / baseline_time;
+    println!(
+        "one scan of {count}: proved {proved_time:.2} us, by hand {baseline_time:.2} us, ratio {ratio:.2}"
+    );
+}
+
 fn main() {
     thermometers();
+    feeds(100, 300);
+    feeds(1_000, 30);
+    feeds(10_000, 5);
 }

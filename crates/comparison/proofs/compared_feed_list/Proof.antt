@@ -81,10 +81,11 @@ returns c =
     let told = c .before .before .before .before .before .before .before .before .enum-told .given .1 in
     let o = opening-is _ (c .before .before .before .before .before .before .before .before .before .before .before .«open» .ensures) told in
     let first = c .before .before .before .before .before .before .before .fresh .ensures .0 ∙ ap freshOf (table-is _ (c .before .before .before .before .before .before .before .before .before .before .before .«open» .ensures) told) in
-    let f = c .before .before .before .before .feed-list .ensures in
-    (sym (ap refusal o),
-    answers-when _ _ _ _ _ _ o (f .0 ∙ ap (λ (x : Calibrator). tabulate (answerAt x (a .scans .now) (a .sizes .now) (a .buffers .now) (a .rooms .now)) (length (a .answers .now))) first),
-    buffers-when _ _ _ _ _ (a .answers .now) o (f .1 ∙ ap (λ (x : Calibrator). buffersAt x (a .scans .now) (a .sizes .now) (a .buffers .now) (a .rooms .now) (length (a .answers .now))) first))
+    let f = c .before .before .before .before .feed-list .ensures in (
+      sym (ap refusal o),
+      answers-when _ _ _ _ _ _ o (f .0 ∙ ap (λ (x : Calibrator). tabulate (answerAt x (a .scans .now) (a .sizes .now) (a .buffers .now) (a .rooms .now)) (length (a .answers .now))) first),
+      buffers-when _ _ _ _ _ (a .answers .now) o (f .1 ∙ ap (λ (x : Calibrator). buffersAt x (a .scans .now) (a .sizes .now) (a .buffers .now) (a .rooms .now) (length (a .answers .now))) first),
+    )
 
 returns-2 : tie.Need-returns-2
 returns-2 c =
