@@ -1,8 +1,9 @@
 // Whole-number division and rounding on i64, and the laws on ℤ that every other crate uses.
 ghost use mathlib.Core.Path.{_≡_};
 ghost use lib.IntN.{pos, _-ℤ_, _*ℤ_};
-ghost use lib.Signed.{_<ℤ_};
+ghost use lib.Signed.{_<ℤ_, _≤ℤ_};
 ghost use Rattle.integers.specs.Rounding.{floor, r};
+ghost use Rattle.integers.specs.Bounds.{Bounded};
 
 // The floor of a / b.
 pub fn floor_div(a: i64, b: i64) -> i64
@@ -39,4 +40,12 @@ pub fn round(a: i64, b: i64) -> i64
         return quotient;
     }
     quotient + 1
+}
+
+// r(a, b) by its own equation, where 2a + b fits: one division, and no remainder to decide by.
+pub fn round_small(a: i64, b: i64) -> i64
+    requires { ⌜ Bounded a (pos 2305843009213693952) × (pos 0 <ℤ b) × (b ≤ℤ pos 2305843009213693952) ⌝ }
+    ensures { λ q. ⌜ q ≡ r a b ⌝ }
+{
+    floor_div(2 * a + b, 2 * b)
 }

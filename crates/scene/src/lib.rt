@@ -8,7 +8,7 @@ ghost use lib.Signed.{_≤ℤ_};
 ghost use lib.Ieee.{isNan};
 ghost use Rattle.scene.specs.Temperature.{temperature};
 ghost use Rattle.scene.specs.Scene.{kelvin, value, bits, sceneOf, ConstantsRange};
-use integers::round;
+use integers::round_small;
 
 // A temperature in kelvin, or a mark.
 pub enum Scene {
@@ -33,9 +33,9 @@ fn units(k: Constants, n: i64) -> i64
     requires { ⌜ ConstantsRange k × (pos 0 ≤ℤ n) × ((pos 4 *ℤ n) ≤ℤ (pos 5 *ℤ k .d)) ⌝ }
     ensures { λ t. ⌜ t ≡ temperature (k .tc) (k .rise) (k .tnl) (k .d) n ⌝ }
 {
-    let x = round(65_536 * n, k.d);
-    let linear = round(n * k.rise, k.d);
-    let bend = round(4 * x * (65_536 - x) * k.tnl, 4_294_967_296);
+    let x = round_small(65_536 * n, k.d);
+    let linear = round_small(n * k.rise, k.d);
+    let bend = round_small(4 * x * (65_536 - x) * k.tnl, 4_294_967_296);
     k.tc + linear + bend
 }
 
