@@ -74,10 +74,17 @@ fn thermometers() {
     );
 }
 
-/// Consecutive bench scans with earth counts at random between the cold and the warm counts, so that
-/// from the eighth on the window is full and most scenes are delivered.
+/// Consecutive bench scans with earth counts at random between the cold and the warm counts, under the
+/// bench table with a weight for each age: from the eighth scan on the window is full, and every
+/// scene is delivered.
 fn scans(count: usize) -> FeedList {
     let mut random = Random::new(1);
+    let mut table = TableValues::bench();
+    table.count_weights = [8, 7, 6, 5, 4, 3, 2, 1];
+    table.thermometer_weights = [8, 7, 6, 5, 4, 3, 2, 1];
+    table.warm_percentage = 20;
+    table.cold_percentage = 20;
+    table.thermometer_percentage = 20;
     let mut values = RecordValues::bench();
     let feeds = (1..=count)
         .map(|number| {
@@ -93,7 +100,7 @@ fn scans(count: usize) -> FeedList {
         })
         .collect();
     FeedList {
-        table: TableValues::bench().encode(),
+        table: table.encode(),
         feeds,
     }
 }
