@@ -1,9 +1,9 @@
 -- Two lists that are alike give the same products: their rolls keep the same scans by age, and a product is made of these, the number
 -- and the earth counts alone.
 use Prim.Native.Nat.{ℕ, _+_}
-use mathlib.Core.Path.{_≡_, refl, sym, ap, ap₂, fun-ext, _∙_}
+use mathlib.Core.Path.{_≡_, sym, ap, ap₂, fun-ext, _∙_}
 use mathlib.Core.List.{List, [], _∷_, _++_}
-use mathlib.Core.Bool.{Bool, true, cond}
+use mathlib.Core.Bool.{cond}
 use lib.Dec.{eqb}
 use lib.ListN.{take, drop}
 use lib.Seq.{take-at}
@@ -21,8 +21,8 @@ use Rattle.calibrator.specs.declared.Verdict.{Verdict}
 use Rattle.calibrator.specs.declared.Verdict.the-variants.{Passes, Fails}
 use Rattle.calibrator.specs.declared.Answer.the-variants.{Accepted, Refused}
 use Rattle.calibrator.specs.Feeding.{earthCounts, keptBy}
-use Rattle.calibrator.specs.Roll.{Feed, Outcome, Roll, begun, lastNumber, verdictAt, joinedBy, joined, scanOfAge, channelsAt, outcomeBy, outcomeAt}
-use Rattle.calibrator.specs.Promise.{SameScan, AlikeFeeds, Alike, SameProduct, SameProducts, productOfOutcome}
+use Rattle.calibrator.specs.Roll.{Feed, Outcome, Roll, lastNumber, verdictAt, joinedBy, joined, scanOfAge, channelsAt, outcomeBy, outcomeAt}
+use Rattle.calibrator.specs.Promise.{SameScan, AlikeFeeds, Alike, SameProduct, SameProducts}
 
 -- what the roll says of each feed of a list
 unfoldable pub rolledOutcomes : Settings → Roll → List Feed → List Outcome

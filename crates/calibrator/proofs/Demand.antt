@@ -1,5 +1,4 @@
 -- Demand 3, entire: for every accepted table, every list of feeds and every second list.
-use Prim.Native.Nat.{ℕ, _<_}
 use mathlib.Core.Path.{_≡_, refl, sym, subst, subst₂}
 use mathlib.Core.List.{List, [], _∷_}
 use lib.ListN.{drop}
@@ -15,11 +14,11 @@ use Rattle.calibrator.specs.declared.Calibrator.{Calibrator}
 use Rattle.calibrator.specs.declared.Verdict.{Verdict}
 use Rattle.calibrator.specs.declared.Verdict.the-variants.{Passes, Fails}
 use Rattle.calibrator.specs.Feeding.{freshOf}
-use Rattle.calibrator.specs.Roll.{Feed, Outcome, Roll, verdictAt, joined, outcomeBy, outcomeAt}
-use Rattle.calibrator.specs.Promise.{outcomes, Each, ScenesBy, FeedClaim, Alike, SameProducts, Promise}
+use Rattle.calibrator.specs.Roll.{Feed, Outcome, Roll, verdictAt, joined, outcomeBy}
+use Rattle.calibrator.specs.Promise.{outcomes, Each, ScenesBy, FeedClaim, SameProducts, Promise}
 use Rattle.calibrator.proofs.SceneClaims.{scene-claim}
-use Rattle.calibrator.proofs.AlikeLaws.{rolledOutcomes, SameRolls, alike-products}
-use Rattle.calibrator.proofs.HistoryLaws.{calibratorOf, outcomes-by-roll, fresh-is-empty-roll}
+use Rattle.calibrator.proofs.AlikeLaws.{rolledOutcomes, alike-products}
+use Rattle.calibrator.proofs.HistoryLaws.{outcomes-by-roll, fresh-is-empty-roll}
 
 module _ (s : Settings) (range : SettingsRange s) where
   scenes-of : (v : Verdict) (roll : Roll) (feed : Feed) → ScenesBy v s roll feed (outcomeBy v s roll feed)

@@ -1,38 +1,32 @@
 -- After any list of feeds the calibrator is an equation of the plain roll, so that what each feed leaves is what the roll says.
-use Prim.Native.Nat.{ℕ, suc, _+_, _-_, _<_, _≤_}
+use Prim.Native.Nat.{ℕ, _+_, _-_, _<_, _≤_}
 use native.Mathlib.Omega.{arith}
-use mathlib.Core.Path.{_≡_, refl, sym, ap, ap₂, subst, _∙_}
+use mathlib.Core.Path.{_≡_, refl, ap, ap₂, _∙_}
 use mathlib.Core.List.{List, [], _∷_, _++_}
-use mathlib.Core.Bool.{Bool, true, false, not, _&&_, cond}
-use lib.Dec.{T, eqb, leb, ltb}
+use mathlib.Core.Bool.{Bool, true, false, cond}
+use lib.Dec.{eqb}
 use lib.ListN.{length, drop, length-append}
-use borrow.Author.Tests.{leb-false}
-use Rattle.fields.specs.Fields.{layoutSize, layoutIsRight}
-use Rattle.lists.specs.Build.{tabulate, cells}
+use Rattle.fields.specs.Fields.{layoutSize}
 use Rattle.lists.proofs.Tabulate.{length-tabulate, tabulate-same}
 use Rattle.lists.proofs.Cells.{cells-same}
 use Rattle.table.specs.declared.Table.{Table}
 use Rattle.table.specs.Settings.{Settings, settingsOf, channels}
 use Rattle.table.specs.Opening.{ages}
 use Rattle.acceptance.specs.declared.Scan.{Scan}
-use Rattle.acceptance.specs.Record.{recordLayout, scanNumber}
+use Rattle.acceptance.specs.Record.{scanNumber}
 use Rattle.acceptance.specs.Kept.{keptScan}
 use Rattle.window.specs.declared.Window.{Window}
 use Rattle.window.specs.declared.Channel.{Channel}
-use Rattle.window.specs.Ages.{noScan, windowOf, emptyWindow, gapBetween, gapOf, aged, windowAfter}
-use Rattle.window.specs.Means.{meansIn, stateOf}
+use Rattle.window.specs.Ages.{noScan, windowOf, windowAfter}
+use Rattle.window.specs.Means.{stateOf}
 use Rattle.window.proofs.AgeLaws.{ScanShape, gap-between, window-after-is-aged, means-of-scans}
 use Rattle.product.specs.Product.{productLayout, productOf, deliveredCount}
 use Rattle.calibrator.specs.declared.Calibrator.{Calibrator}
-use Rattle.calibrator.specs.declared.Fed.{Fed}
 use Rattle.calibrator.specs.declared.Verdict.{Verdict}
 use Rattle.calibrator.specs.declared.Verdict.the-variants.{Passes, Fails}
-use Rattle.calibrator.specs.declared.Refusal.{Refusal}
-use Rattle.calibrator.specs.declared.Refusal.the-variants.{LengthWrong, FieldWrong, NumberNotAbove, BufferShort}
-use Rattle.calibrator.specs.declared.Answer.the-variants.{Accepted, Refused}
-use Rattle.calibrator.specs.Refusals.{verdict}
-use Rattle.calibrator.specs.Feeding.{earthCounts, keptBy, freshOf, fedBy, fedOf, bufferBy, bufferOf, nextWindow, channelsIn}
-use Rattle.calibrator.specs.Roll.{Feed, Outcome, Roll, begun, lastNumber, verdictAt, joinedBy, joined, scanOfAge, meansAt, channelsAt, outcomeBy, outcomeAt}
+use Rattle.calibrator.specs.declared.Answer.the-variants.{Accepted}
+use Rattle.calibrator.specs.Feeding.{earthCounts, keptBy, freshOf, fedBy, bufferBy, nextWindow, channelsIn}
+use Rattle.calibrator.specs.Roll.{Feed, Outcome, Roll, begun, lastNumber, verdictAt, joinedBy, joined, scanOfAge, channelsAt, outcomeBy}
 use Rattle.calibrator.specs.Promise.{outcomes}
 use Rattle.calibrator.proofs.Verdicts.{passes-facts}
 use Rattle.calibrator.proofs.RollLaws.{NumbersTo, aged-roll, numbers-further}

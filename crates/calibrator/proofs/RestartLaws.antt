@@ -1,15 +1,14 @@
 -- A product depends on the window's records alone: the roll of these records keeps the same scans by age, and feeding them again, in
 -- order, is accepted.
-use Prim.Native.Nat.{ℕ, suc, _+_, _-_, _<_, _≤_}
+use Prim.Native.Nat.{ℕ, _+_, _-_, _<_, _≤_}
 use native.Mathlib.Omega.{arith}
-use mathlib.Core.Path.{_≡_, refl, sym, ap, subst, _∙_}
+use mathlib.Core.Path.{_≡_, refl, sym, ap, _∙_}
 use mathlib.Core.List.{List, [], _∷_, _++_}
-use mathlib.Core.Bool.{Bool, true, false, not, _&&_, cond}
+use mathlib.Core.Bool.{Bool, true, false, _&&_, cond}
 use lib.Dec.{eqb, leb, ltb}
 use lib.ListN.{length, drop}
-use borrow.Author.Tests.{ne-eqb, le-ltb, lt-leb, ltb-false, leb-false}
+use borrow.Author.Tests.{ne-eqb, lt-leb, ltb-false}
 use Rattle.fields.specs.Fields.{layoutSize, layoutIsRight}
-use Rattle.lists.specs.Build.{tabulate}
 use Rattle.lists.proofs.Tabulate.{tabulate-same}
 use Rattle.table.specs.declared.Table.{Table}
 use Rattle.table.specs.Settings.{Settings, settingsOf, channels}
@@ -17,21 +16,17 @@ use Rattle.table.specs.Opening.{ages}
 use Rattle.acceptance.specs.declared.Scan.{Scan}
 use Rattle.acceptance.specs.Record.{recordLayout, scanNumber}
 use Rattle.window.specs.declared.Window.{Window}
-use Rattle.window.specs.declared.Means.{Means}
 use Rattle.window.specs.declared.Channel.{Channel}
 use Rattle.window.specs.Ages.{windowOf}
 use Rattle.window.specs.Means.{meansOf, meansIn, stateOf}
 use Rattle.window.proofs.AgeLaws.{ScanShape, means-of-scans}
 use Rattle.product.specs.Product.{productLayout, productOf, deliveredCount}
 use Rattle.calibrator.specs.declared.Calibrator.{Calibrator}
-use Rattle.calibrator.specs.declared.Refusal.{Refusal}
-use Rattle.calibrator.specs.declared.Refusal.the-variants.{LengthWrong, FieldWrong, NumberNotAbove, BufferShort}
 use Rattle.calibrator.specs.declared.Verdict.{Verdict}
 use Rattle.calibrator.specs.declared.Verdict.the-variants.{Passes, Fails}
-use Rattle.calibrator.specs.declared.Answer.the-variants.{Accepted, Refused}
-use Rattle.calibrator.specs.Refusals.{verdict}
+use Rattle.calibrator.specs.declared.Answer.the-variants.{Accepted}
 use Rattle.calibrator.specs.Feeding.{earthCounts, keptBy, freshOf}
-use Rattle.calibrator.specs.Roll.{Feed, Outcome, Roll, begun, lastNumber, verdictAt, joinedBy, joined, scanOfAge, channelsAt, outcomeBy, outcomeAt}
+use Rattle.calibrator.specs.Roll.{Feed, Roll, begun, lastNumber, verdictAt, joinedBy, joined, scanOfAge, channelsAt, outcomeBy, outcomeAt}
 use Rattle.calibrator.specs.Promise.{outcomeIn}
 use Rattle.calibrator.specs.Restart.{calibratorAfter, outcomeAfter, rolledBy, recent, feedsOf, Restart}
 use Rattle.calibrator.proofs.Verdicts.{verdict-passes, passes-facts}

@@ -9,7 +9,6 @@ use lib.Dec.{eqb, ltb}
 use borrow.Author.Tests.{eq-eqb, ne-eqb, lt-ltb, le-ltb, eqb-true, eqb-false, ltb-false}
 use Rattle.table.specs.Settings.{Settings}
 use Rattle.table.specs.Opening.{ages}
-use Rattle.acceptance.specs.declared.Scan.{Scan}
 use Rattle.acceptance.specs.Record.{scanNumber}
 use Rattle.window.specs.Ages.{noScan, aged, gapBetween}
 use Rattle.calibrator.specs.Feeding.{keptBy}

@@ -2,32 +2,30 @@
 -- product's bytes: the word of a scene is the bits of the scene that the channel's flag and constants give.
 use Prim.Native.Nat.{ℕ, _+_, _*_, _<_, _≤_}
 use mathlib.Core.Path.{_≡_, refl, sym, ap, subst, _∙_}
-use mathlib.Core.List.{List, _∷_, _++_}
+use mathlib.Core.List.{List, _++_}
 use native.Mathlib.Omega.{arith}
 use mathlib.Core.Bool.{Bool, true, false, false≢true}
 use lib.Dec.{eqb}
-use lib.IntN.{ℤ, pos, natAbs, _+ℤ_, _-ℤ_, _*ℤ_}
-use lib.Signed.{_≤ℤ_, _<ℤ_}
-use lib.Ieee.{Float, binary32, ofBits, toBits}
-use lib.ListN.{getD}
-use borrow.Author.Tests.{eq-eqb, eqb-true}
-use Rattle.integers.specs.Fractions.{_/ᶠ_, whole, Distance}
+use lib.IntN.{ℤ, pos, natAbs, _-ℤ_, _*ℤ_}
+use lib.Signed.{_≤ℤ_}
+use lib.Ieee.{Float, binary32, ofBits}
+use borrow.Author.Tests.{eqb-true}
+use Rattle.integers.specs.Fractions.{_/ᶠ_, Distance}
 use Rattle.integers.proofs.Naturals.{natural-below}
-use Rattle.fields.specs.Numbers.{u16At, u32At}
+use Rattle.fields.specs.Numbers.{u16At}
 use Rattle.lists.proofs.Tabulate.{getD-tabulate}
 use Rattle.table.specs.Settings.{Settings, channels}
 use Rattle.table.specs.Ranges.{targetOf, SettingsRange}
 use Rattle.window.specs.declared.Means.{Means}
 use Rattle.window.specs.declared.Channel.{Channel}
-use Rattle.window.specs.Means.{Tw, Tc, D, flagOf, constantsOf, noConstants, stateOf}
+use Rattle.window.specs.Means.{Tw, Tc, D, flagOf, constantsOf, stateOf}
 use Rattle.window.proofs.FlagLaws.{Unflagged, unflagged-flag-zero, flag-zero-unflagged, flag-zero-weights-above}
 use Rattle.scene.specs.declared.Constants.{Constants}
 use Rattle.scene.specs.declared.Scene.{Scene}
 use Rattle.scene.specs.declared.Scene.the-variants.{Kelvin, Flagged, Outside, Guard}
-use Rattle.scene.specs.Scene.{kelvin, value, bits, units, numerator, sceneOf}
-use Rattle.scene.specs.Temperature.{N, temperature}
-use Rattle.scene.specs.Unrounded.{E, unroundedTw}
-use Rattle.scene.proofs.Delivered.{Passes, WithinGuard, temperatureOf, N-is-numerator, delivered-exactly-when}
+use Rattle.scene.specs.Scene.{kelvin, bits, units, numerator, sceneOf}
+use Rattle.scene.specs.Temperature.{temperature}
+use Rattle.scene.proofs.Delivered.{Passes, temperatureOf, N-is-numerator, delivered-exactly-when}
 use Rattle.scene.proofs.Distance.{temperature-distance}
 use Rattle.scene.proofs.Exact.{units-of-kelvin, kelvin-bits-back}
 use Rattle.product.specs.Scenes.{sceneIn, sceneAt, earthPart, noChannel, delivered}
@@ -36,7 +34,7 @@ use Rattle.product.proofs.Bytes.{scene-in-product}
 use Rattle.product.proofs.Marks as M
 use Rattle.calibrator.specs.Feeding.{earthCounts}
 use Rattle.calibrator.specs.Roll.{Roll, meansAt, channelsAt}
-use Rattle.calibrator.specs.Promise.{ByTheRules, NoMark, SceneClaim, wordAt, unitsAt, dAt, nAt, tAt, eAt}
+use Rattle.calibrator.specs.Promise.{ByTheRules, NoMark, SceneClaim, wordAt, unitsAt, nAt, tAt, eAt}
 
 -- ---- the scene of a channel with this flag and these constants
 flag-zero-scene : (s : Settings) (c count : ℕ) (m : Means) → flagOf s (targetOf c) m ≡ 0 → sceneIn (stateOf s c m) count ≡ sceneOf (constantsOf m (s .channel c)) count

@@ -1,6 +1,6 @@
 -- Laws of + and * on ℤ that lib.IntN does not have: * is associative and distributes over +.
-use mathlib.Core.Path.{_≡_, refl, sym, _∙_, ap, ap₂}
-use Prim.Native.Nat.{ℕ, zero, suc}
+use mathlib.Core.Path.{_≡_, sym, _∙_, ap, ap₂}
+use Prim.Native.Nat.{zero, suc}
 use lib.IntN.{ℤ, pos, negsuc, sucℤ, predℤ, negℤ, _+ℤ_, _*ℤ_, +ℤ-comm, +ℤ-assoc, +ℤ-idl, +ℤ-idr, +ℤ-invr, +ℤ-invl, +ℤ-sucℤ, +ℤ-predℤ, *ℤ-comm, *ℤ-one, zero-*ℤ, sucℤ-*ℤ, predℤ-*ℤ, one}
 
 -- what holds of 0 and of each neighbour of a number it holds of, holds of every number

@@ -1,12 +1,12 @@
 -- Absolute bounds: `Bounded x m` says -m ≤ x ≤ m. Sums, products, weakening, a factor above 0 cancelled.
 use mathlib.Core.Path.{_≡_, subst₂}
-use mathlib.Core.List.{List, [], _∷_}
+use mathlib.Core.List.{[], _∷_}
 use Prim.Native.Nat.{ℕ, _≤_}
 use native.Mathlib.Omega.{arith}
 use lib.IntN.{ℤ, pos, negsuc, negℤ, natAbs, _+ℤ_, _-ℤ_, _*ℤ_}
 use lib.Signed.{_≤ℤ_, _<ℤ_, ≤ℤ-refl}
 use Rattle.integers.specs.Bounds.{Bounded}
-use Rattle.integers.proofs.Ring.{_:+_, _:-_, _:*_, opp, #, v0, v1, v2, v3}
+use Rattle.integers.proofs.Ring.{_:+_, _:*_, opp, #, v0, v1, v2, v3}
 use Rattle.integers.proofs.Linear.{order, plus-neg, minus-neg, size-parts}
 use Rattle.integers.proofs.Naturals.{natural-not-negative, natural-at-most}
 use Rattle.integers.proofs.Certificate.{_:≤_, _:<_, hyp, nat, _⊕_, _⊗_, le-by}

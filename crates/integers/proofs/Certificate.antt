@@ -1,7 +1,7 @@
 -- Orders by certificate: from facts, each an order or an equation between expressions, `le-by` and `lt-by` show an order.
 -- A certificate names something that the facts and the negated goal make not negative, and that, multiplied out, is a number below 0.
 -- docs/CERTIFICATES.md says how one is read; tools/certificate.py finds them, and nothing in what it writes is trusted.
-use mathlib.Core.Path.{_≡_, refl, sym, _∙_, ap, subst}
+use mathlib.Core.Path.{_≡_, sym, _∙_, ap, subst}
 use mathlib.Core.List.{List, [], _∷_}
 use mathlib.Core.Bool.{Bool, true, false}
 use mathlib.Core.Logic.{⊎-elim}
@@ -9,7 +9,7 @@ use Prim.Native.Nat.{ℕ, zero, suc}
 use lib.Dec.{T}
 use lib.IntN.{ℤ, pos, negsuc, _+ℤ_, _-ℤ_, _*ℤ_, +ℤ-idr, *ℤ-zero}
 use lib.Signed.{_≤ℤ_, _<ℤ_}
-use Rattle.integers.proofs.Ring.{Expression, num, _:+_, _:-_, _:*_, value, multipliedOut, ring, #, v0, v1, Horner, con, pol, hornerValue, head, tail, isZero, isZero-zero, same-value, both, both-left, both-right}
+use Rattle.integers.proofs.Ring.{Expression, _:+_, _:-_, _:*_, value, multipliedOut, ring, #, v0, v1, Horner, con, pol, hornerValue, head, tail, isZero, isZero-zero, same-value, both, both-left, both-right}
 use Rattle.integers.proofs.Naturals.{natural-not-negative}
 use Rattle.integers.proofs.Order.{at-most-equal, at-most-or-above, sum-not-negative, product-not-negative, square-not-negative, gap, strict-gap}
 

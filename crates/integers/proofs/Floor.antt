@@ -1,8 +1,8 @@
 -- The floor of a / b, b above 0, is the one whole number q with b q ≤ a < b q + b; and how the machine's division, toward 0, gives it.
-use mathlib.Core.Path.{_≡_, refl, sym, _∙_, ap, subst}
-use mathlib.Core.List.{List, [], _∷_}
-use mathlib.Core.Bool.{Bool, true, false}
-use Prim.Native.Nat.{ℕ, zero, suc, _+_, _*_, _/_, _%_, _≤_, _<_}
+use mathlib.Core.Path.{_≡_, sym, _∙_, ap, subst}
+use mathlib.Core.List.{[], _∷_}
+use mathlib.Core.Bool.{true, false}
+use Prim.Native.Nat.{ℕ, suc, _+_, _*_, _/_, _%_, _≤_, _<_}
 use native.Mathlib.Omega.{arith}
 use native.Mathlib.Nat.{div-add-mod, mod-lt}
 use lib.IntN.{ℤ, pos, negsuc, negℤ, _+ℤ_, _-ℤ_, _*ℤ_}
@@ -10,10 +10,10 @@ use lib.Signed.{_≤ℤ_, _<ℤ_, quotZ, remZ, ltZ}
 use Rattle.integers.specs.Rounding.{floor}
 use Rattle.integers.specs.Bounds.{Bounded}
 use Rattle.integers.proofs.Ring.{_:+_, _:-_, _:*_, opp, ring, #, v0, v1, v2, v3, v4, v5}
-use Rattle.integers.proofs.Linear.{order, sum-parts, plus-neg, minus-neg, plus-product, minus-product}
+use Rattle.integers.proofs.Linear.{order, sum-parts, plus-neg, minus-neg}
 use Rattle.integers.proofs.Naturals.{natural-above}
 use Rattle.integers.proofs.Order.{at-most-antisym, ltZ-true, ltZ-false}
-use Rattle.integers.proofs.Certificate.{_:≤_, _:<_, _:≡_, hyp, nat, tim, _⊕_, _⊗_, le-by, lt-by}
+use Rattle.integers.proofs.Certificate.{_:≤_, _:<_, _:≡_, hyp, tim, _⊕_, _⊗_, le-by, lt-by}
 
 natural-floor-low : (a : ℤ) (m : ℕ) → 0 < m → (pos m *ℤ floor a (pos m)) ≤ℤ a
 unfolding floor

@@ -1,13 +1,12 @@
 -- Laws on fractions whose denominators are above 0: products of denominators, and a distance that does not depend on how a fraction is written.
-use mathlib.Core.Path.{_≡_, sym, _∙_, ap}
-use mathlib.Core.List.{List, [], _∷_}
-use lib.IntN.{ℤ, pos, negsuc, negℤ, _+ℤ_, _-ℤ_, _*ℤ_}
-use lib.Signed.{_≤ℤ_, _<ℤ_}
-use Rattle.integers.specs.Bounds.{Bounded}
-use Rattle.integers.specs.Fractions.{Fraction, _≡ᶠ_, _≤ᶠ_, _<ᶠ_, Distance}
-use Rattle.integers.proofs.Ring.{_:+_, _:-_, _:*_, opp, ring, #, v0, v1, v2, v3, v4, v5}
+use mathlib.Core.Path.{_≡_, _∙_, ap}
+use mathlib.Core.List.{[], _∷_}
+use lib.IntN.{ℤ, pos, _-ℤ_, _*ℤ_}
+use lib.Signed.{_<ℤ_}
+use Rattle.integers.specs.Fractions.{Fraction, _≡ᶠ_, _≤ᶠ_, Distance}
+use Rattle.integers.proofs.Ring.{_:-_, _:*_, opp, ring, #, v0, v1, v2, v3, v4, v5}
 use Rattle.integers.proofs.Order.{below-at-most}
-use Rattle.integers.proofs.Certificate.{_:≤_, _:<_, _:≡_, hyp, nat, tim, _⊕_, _⊗_, le-by, lt-by}
+use Rattle.integers.proofs.Certificate.{_:≤_, _:<_, hyp, _⊕_, _⊗_, le-by, lt-by}
 use Rattle.integers.proofs.Bounds.{bounded-product, bounded-by-itself, bounded-equal, bounded-cancel}
 
 pub product-above : {a b : ℤ} → pos 0 <ℤ a → pos 0 <ℤ b → pos 0 <ℤ (a *ℤ b)

@@ -1,11 +1,11 @@
 -- r(a, b), b above 0, is within a half of a / b; how the remainder decides it; and what is within a half of a / b stays between
 -- whole numbers that a / b is between.
-use mathlib.Core.Path.{_≡_, sym, subst}
-use mathlib.Core.List.{List, [], _∷_}
-use lib.IntN.{ℤ, pos, negsuc, negℤ, _+ℤ_, _-ℤ_, _*ℤ_}
+use mathlib.Core.Path.{_≡_}
+use mathlib.Core.List.{[], _∷_}
+use lib.IntN.{ℤ, pos, _+ℤ_, _-ℤ_, _*ℤ_}
 use lib.Signed.{_≤ℤ_, _<ℤ_}
 use Rattle.integers.specs.Rounding.{floor, r}
-use Rattle.integers.specs.Bounds.{Bounded, WithinHalf}
+use Rattle.integers.specs.Bounds.{WithinHalf}
 use Rattle.integers.proofs.Ring.{_:+_, _:-_, _:*_, opp, #, v0, v1, v2, v3}
 use Rattle.integers.proofs.Certificate.{_:≤_, _:<_, hyp, nat, _⊕_, _⊗_, le-by, lt-by}
 use Rattle.integers.proofs.Floor.{floor-low, floor-high, floor-unique}

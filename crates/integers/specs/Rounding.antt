@@ -1,5 +1,5 @@
 -- Document 01, "Units and rounding". Every division of document 01 is one of these two.
-use Prim.Native.Nat.{ℕ, _/_}
+use Prim.Native.Nat.{_/_}
 use lib.IntN.{ℤ, pos, negsuc, natAbs, _+ℤ_, _*ℤ_}
 
 -- the floor of a / b, b above 0: the greatest whole number that is at most a / b

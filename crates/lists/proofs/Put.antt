@@ -98,6 +98,10 @@ module _ {A : Type 0} where
       ∙ put-behind (take at b ++ u) v b (at + length u) (length-up-to-put b u at (omega arith))
       ∙ simp (append-assoc, add-assoc, length-append)
 
+  -- `&xs[k..]`
+  pub rest-is-drop : (xs : List A) (k : ℕ) → take (length xs - k) (drop k xs) ≡ drop k xs
+  rest-is-drop xs k = take-all (length xs - k) (drop k xs) (omega (arith, length-drop k xs))
+
   -- ---- a part that was lent and has come back
 
   -- `&mut xs[a..e]`, which came back as ys

@@ -1,16 +1,16 @@
 -- The scenes of a channel: none is a NaN, its bits fit four bytes and give its value back, and a temperature is t / 4096 with t from 1 to
 -- 16,777,215.
-use Prim.Native.Nat.{ℕ, _≤_, _<_}
+use Prim.Native.Nat.{ℕ, _≤_}
 use native.Mathlib.Omega.{arith}
 use mathlib.Core.Path.{_≡_, sym, ap, _∙_}
 use mathlib.Core.Bool.{Bool, true, false, not, cond}
 use lib.Dec.{T, eqb}
 use lib.IntN.{natAbs}
-use lib.Ieee.{Float, binary32, ofBits, isNan, fits}
+use lib.Ieee.{Float, isNan}
 use Rattle.scene.specs.declared.Scene.{Scene}
 use Rattle.scene.specs.declared.Scene.the-variants.{Kelvin, Flagged}
-use Rattle.scene.specs.Scene.{kelvin, value, bits, sceneOf}
-use Rattle.scene.proofs.Exact.{scene-not-nan, flagged-not-nan, scene-fits, flagged-fits, bits-below, bits-back}
+use Rattle.scene.specs.Scene.{kelvin, value, sceneOf}
+use Rattle.scene.proofs.Exact.{scene-not-nan, flagged-not-nan}
 use Rattle.scene.proofs.Delivered.{temperatureOf, delivered-exactly-when}
 use Rattle.window.specs.declared.Channel.{Channel}
 use Rattle.product.specs.Scenes.{sceneIn}
@@ -34,15 +34,6 @@ module _ (channel : Channel) (count : ℕ) where
 
   pub scene-in-not-nan : T (not (isNan (value (sceneIn channel count))))
   scene-in-not-nan = scene-in-cases (λ s. T (not (isNan (value s)))) flagged-not-nan (scene-not-nan (channel .constants) count)
-
-  scene-in-fits : T (fits binary32 (value (sceneIn channel count)))
-  scene-in-fits = scene-in-cases (λ s. T (fits binary32 (value s))) flagged-fits (scene-fits (channel .constants) count)
-
-  pub scene-bits-below : bits (sceneIn channel count) < 4294967296
-  scene-bits-below = bits-below (sceneIn channel count) scene-in-fits
-
-  pub scene-bits-back : ofBits binary32 (bits (sceneIn channel count)) ≡ value (sceneIn channel count)
-  scene-bits-back = bits-back (sceneIn channel count) scene-in-fits
 
   pub temperature-in-units : (x : Float) → sceneIn channel count ≡ Kelvin x → InUnits x
   temperature-in-units x = scene-in-cases (λ s. s ≡ Kelvin x → InUnits x) flagged-is-none scene

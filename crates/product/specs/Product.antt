@@ -1,7 +1,7 @@
 -- Document 01, "The product, 8,706 bytes".
-use Prim.Native.Nat.{ℕ, _+_, _*_, _/_, _%_}
+use Prim.Native.Nat.{ℕ, _+_, _/_, _%_}
 use mathlib.Core.List.{List, [], _∷_, _++_}
-use lib.ListN.{length, getD}
+use lib.ListN.{getD}
 use lib.Ieee.{binary32, toBits}
 use Rattle.fields.specs.Fields.{Field}
 use Rattle.lists.specs.Build.{tabulate, cells}

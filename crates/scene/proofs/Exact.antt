@@ -167,13 +167,6 @@ unfolding isNan
 flagged-not-nan = tt
 
 -- ---- the bits of a scene are below 2^32 and give its value back
-pub scene-fits : (k : Constants) (count : ℕ) → T (fits binary32 (value (sceneOf k count)))
-unfolding fits
-scene-fits = scene-cases (λ s. T (fits binary32 (value s))) tt tt kelvin-fits
-
-pub flagged-fits : T (fits binary32 (value Flagged))
-unfolding fits
-flagged-fits = tt
 
 pub bits-below : (s : Scene) → T (fits binary32 (value s)) → bits s < 4294967296
 unfolding bits

@@ -67,7 +67,7 @@ module _ {bytes : List ℕ} (table : AcceptedTable bytes) where
 
 -- ---- the answer of `opened` is that of `opening`
 
-answer-of-opened : (answer : Opening) (bytes : List ℕ) → openedAs answer bytes .answer ≡ answer
+pub answer-of-opened : (answer : Opening) (bytes : List ℕ) → openedAs answer bytes .answer ≡ answer
 unfolding openedAs noTable
 answer-of-opened Accepted bytes = refl
 answer-of-opened LengthWrong bytes = refl

@@ -8,31 +8,25 @@ use Rattle.lists.specs.Build.{tabulate}
 use Rattle.table.specs.declared.Table.{Table}
 use Rattle.table.specs.declared.Opened.{Opened}
 use Rattle.table.specs.declared.Opening.{Opening}
-use Rattle.table.specs.declared.Opening.the-variants.{Accepted, LengthWrong, FieldWrong, ValueOutside}
-use Rattle.table.specs.Opening.{AcceptedTable, opening, noTable, openedAs, opened, refusal}
+use Rattle.table.specs.declared.Opening.the-variants.{Accepted}
+use Rattle.table.specs.Opening.{AcceptedTable, opening, openedAs, opened, refusal}
+use Rattle.table.proofs.OpeningLaws.{answer-of-opened}
 use Rattle.calibrator.specs.declared.Calibrator.{Calibrator}
 use Rattle.calibrator.specs.Feeding.{freshOf}
 use Rattle.calibrator.specs.FeedList.{answerAt, buffersAt}
-use Rattle.comparison.specs.Coded.{freshUnder, answersBy, buffersBy}
+use Rattle.comparison.specs.Coded.{answersBy, buffersBy}
 use borrow.Author.Needs.{needs}
 use Rattle.comparison.proofs.compared_feed_list.Statement.{statement}
 use Rattle.comparison.proofs.compared_feed_list.Tie as tie
 
 -- ---- the answer and the table of an opening
-answer-of : (o : Opening) (bytes : List ℕ) → openedAs o bytes .answer ≡ o
-unfolding openedAs noTable
-answer-of Accepted bytes = refl
-answer-of LengthWrong bytes = refl
-answer-of FieldWrong bytes = refl
-answer-of ValueOutside bytes = refl
-
 table-of : (o : Opening) (bytes : List ℕ) → o ≡ Accepted → openedAs o bytes .table ≡ record { bytes = bytes }
 unfolding openedAs
 table-of o bytes e = ap (λ (x : Opening). openedAs x bytes .table) e
 
 module _ {result : Opened} (bytes : List ℕ) (e : result ≡ opened bytes) where
   opening-is : {o : Opening} → result .answer ≡ o → opening bytes ≡ o
-  opening-is h = sym (answer-of (opening bytes) bytes) ∙ sym (ap (λ (x : Opened). x .answer) e) ∙ h
+  opening-is h = sym (answer-of-opened (opening bytes) bytes) ∙ sym (ap (λ (x : Opened). x .answer) e) ∙ h
 
   table-is : result .answer ≡ Accepted → result .table ≡ record { bytes = bytes }
   table-is h = ap (λ (x : Opened). x .table) e ∙ table-of (opening bytes) bytes (opening-is h)

@@ -1,6 +1,6 @@
 -- `comparison::compared_kept` meets its contract: each return is the value of the scan that `accepted_scan` ensures, at the place that
 -- the tests found. Assumes nothing.
-use mathlib.Core.Path.{_≡_, ap, sym, _∙_}
+use mathlib.Core.Path.{_≡_, ap, _∙_}
 use Prim.Native.Nat.{ℕ, _-_, _<_, _≤_}
 use lib.ListN.{getD}
 use borrow.Author.Tests.{lt-ltb, le-ltb}
