@@ -1,4 +1,4 @@
-//! With the feature `proved`, links the proved functions that `rt staticlib comparison` has built.
+//! With the feature `proved`, links the proved functions that `rt staticlib` has built.
 
 fn main() {
     println!("cargo:rerun-if-changed=build.rs");
@@ -7,6 +7,8 @@ fn main() {
     }
     let folder = std::env::var("CARGO_MANIFEST_DIR").expect("cargo sets it");
     println!("cargo:rustc-link-search=native={folder}/../target/staticlib");
-    println!("cargo:rustc-link-lib=static=comparison");
-    println!("cargo:rerun-if-changed=../target/staticlib/libcomparison.a");
+    for library in ["station", "comparison"] {
+        println!("cargo:rustc-link-lib=static={library}");
+        println!("cargo:rerun-if-changed=../target/staticlib/lib{library}.a");
+    }
 }

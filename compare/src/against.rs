@@ -9,6 +9,7 @@ use crate::acceptance::{accepted_samples, AcceptedCount, AcceptedSamples};
 use crate::bytes::{field, i16_at, i32_at, layout_is_right, u16_at, u32_at};
 use crate::calibrator::judge;
 use crate::check::lists::{outcomes, Outcome};
+use crate::generator::laid_out::laid_out;
 use crate::generator::listings::listing_input;
 use crate::generator::lists::{feed_list, FeedList};
 use crate::generator::numbers::{
@@ -23,6 +24,7 @@ use crate::generator::twins::alike_twin;
 use crate::listing::listing;
 use crate::record::ScanRecord;
 use crate::rounding::{floor, r};
+use crate::station::{calibrated, feed_all, LaidOut};
 use crate::table::open;
 use crate::thermometer::one_thermometer;
 
@@ -177,12 +179,7 @@ fn same_outcomes(about: &str, other: &[Outcome], this: &[Outcome]) -> Result<(),
     for (index, (other, this)) in other.iter().zip(this).enumerate() {
         let about = format!("{about}, feed {}", index + 1);
         same(&about, other.answer, this.answer)?;
-        same(&about, other.buffer.len(), this.buffer.len())?;
-        let differing = (0..this.buffer.len()).find(|at| other.buffer[*at] != this.buffer[*at]);
-        if let Some(at) = differing {
-            let about = format!("{about}, byte {at} of the buffer");
-            same(about, other.buffer[at], this.buffer[at])?;
-        }
+        same_bytes(&about, &other.buffer, &this.buffer)?;
     }
     Ok(())
 }
@@ -201,6 +198,37 @@ pub fn listings(seed: u64, other: impl Fn(Option<&[u8]>, &[u8]) -> String) -> Re
     let table = input.table.as_deref();
     let this = listing(table, &input.input);
     same("listing", other(table, &input.input), this)
+}
+
+/// The first place at which two lists of bytes differ, and how long both are.
+fn same_bytes(about: &str, other: &[u8], this: &[u8]) -> Result<(), String> {
+    same(format!("{about}, bytes"), other.len(), this.len())?;
+    match (0..this.len()).find(|at| other[*at] != this[*at]) {
+        Some(at) => same(format!("{about}, byte {at}"), other[at], this[at]),
+        None => Ok(()),
+    }
+}
+
+/// A list that is fed in one call: the number answered, and every buffer and answer after it.
+pub fn lists_in_one_call(seed: u64, other: impl Fn(&mut LaidOut) -> u8) -> Result<(), String> {
+    let list = laid_out(seed);
+    let (mut by_other, mut by_this) = (list.clone(), list);
+    same("the call", other(&mut by_other), feed_all(&mut by_this))?;
+    same_bytes("answers", &by_other.answers, &by_this.answers)?;
+    same_bytes("buffers", &by_other.buffers, &by_this.buffers)
+}
+
+/// What the program `calibrate` writes to standard output and to standard error.
+pub fn calibrations(
+    seed: u64,
+    other: impl Fn(Option<&[u8]>, &[u8]) -> (Vec<u8>, String),
+) -> Result<(), String> {
+    let input = listing_input(seed);
+    let table = input.table.as_deref();
+    let (products, refusals) = other(table, &input.input);
+    let (this_products, this_refusals) = calibrated(table, &input.input);
+    same("refusals", refusals, this_refusals)?;
+    same_bytes("products", &products, &this_products)
 }
 
 #[cfg(test)]
@@ -333,5 +361,29 @@ mod tests {
         let wrong =
             |table: Option<&[u8]>, input: &[u8]| listing(table, input).trim_end().to_string();
         assert!(finds(|seed| listings(seed, wrong), 10));
+    }
+
+    #[test]
+    fn lists_in_one_call_differ_where_the_rest_is_not_answered() {
+        assert!(!finds(|seed| lists_in_one_call(seed, feed_all), 5));
+        let wrong = |list: &mut LaidOut| {
+            let number = feed_all(list);
+            if let Some(answer) = list.answers.iter_mut().find(|answer| **answer == 255) {
+                *answer = 4;
+            }
+            number
+        };
+        assert!(finds(|seed| lists_in_one_call(seed, wrong), 40));
+    }
+
+    #[test]
+    fn calibrations_differ_where_a_refusal_leaves_a_product() {
+        assert!(!finds(|seed| calibrations(seed, calibrated), 5));
+        let wrong = |table: Option<&[u8]>, input: &[u8]| {
+            let (mut products, refusals) = calibrated(table, input);
+            products.extend(refusals.bytes());
+            (products, refusals)
+        };
+        assert!(finds(|seed| calibrations(seed, wrong), 40));
     }
 }

@@ -27,6 +27,8 @@ pub mod calibrator;
 
 pub mod listing;
 
+pub mod station;
+
 // Inputs, checks of this implementation, and comparison of another one with it.
 pub mod generator;
 

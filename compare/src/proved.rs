@@ -1,15 +1,19 @@
-//! The proved functions, called through the static library of the crate `comparison`, against this
-//! implementation. Nothing checks the declarations below against the proved source, so they are few.
+//! The proved functions, called through the static libraries of the crates `station` and `comparison`,
+//! and the proved programs, against this implementation. Nothing checks the declarations below against
+//! the proved source, so they are few.
 
 use std::io::Write;
 use std::path::Path;
 use std::process::{Command, Stdio};
+use std::ptr::{null, null_mut};
 
 use crate::against;
 use crate::check::lists::Outcome;
 use crate::generator::lists::FeedList;
 use crate::generator::random::case_seed;
+use crate::generator::tables::TableValues;
 use crate::generator::thermometers::ThermometerInput;
+use crate::station::LaidOut;
 
 extern "C" {
     fn compared_floor_div(a: i64, b: i64) -> i64;
@@ -27,7 +31,19 @@ extern "C" {
         sizes: *const u16,
         size_count: usize,
     ) -> bool;
-    fn compared_thermometer(
+    fn compared_kept(
+        table: *const u8,
+        table_length: usize,
+        scan: *const u8,
+        scan_length: usize,
+        k: usize,
+    ) -> u32;
+}
+
+// Of include/sounder.h.
+extern "C" {
+    fn sounder_open(table: *const u8, table_length: usize) -> u8;
+    fn sounder_thermometer(
         r_pam: u32,
         r0: u32,
         alpha: u32,
@@ -36,26 +52,19 @@ extern "C" {
         pam: u16,
         offset: u16,
         count: u16,
-    ) -> i64;
-    fn compared_open(bytes: *const u8, length: usize) -> u8;
-    fn compared_kept(
+        t: *mut i32,
+    ) -> u8;
+    fn sounder_feed_all(
         table: *const u8,
         table_length: usize,
-        scan: *const u8,
-        scan_length: usize,
-        k: usize,
-    ) -> u32;
-    fn compared_feed_list(
-        table: *const u8,
-        table_length: usize,
-        scans: *const u8,
-        scans_length: usize,
-        sizes: *const u32,
-        size_count: usize,
+        records: *const u8,
+        records_length: usize,
+        record_lengths: *const u32,
+        record_count: usize,
         buffers: *mut u8,
         buffers_length: usize,
-        rooms: *const u32,
-        room_count: usize,
+        buffer_lengths: *const u32,
+        buffer_count: usize,
         answers: *mut u8,
         answer_count: usize,
     ) -> u8;
@@ -122,10 +131,12 @@ fn layout_is_right(bytes: &[u8], layout: &[(u8, usize)]) -> bool {
     }
 }
 
-/// t, or the number of the refusal, which the proved function gives with 1,000,000 added.
+/// t, or the number of the refusal, which leaves what t points at as it was.
 pub fn thermometer(input: &ThermometerInput) -> Result<i32, u8> {
-    let coded = unsafe {
-        compared_thermometer(
+    const BEFORE: i32 = 1_234_567;
+    let mut t = BEFORE;
+    let number = unsafe {
+        sounder_thermometer(
             input.pam_resistance,
             input.resistance,
             input.alpha,
@@ -134,17 +145,19 @@ pub fn thermometer(input: &ThermometerInput) -> Result<i32, u8> {
             input.pam,
             input.offset,
             input.count,
+            &mut t,
         )
     };
-    if coded > 1_000_000 {
-        return Err((coded - 1_000_000) as u8);
+    if number == 0 {
+        return Ok(t);
     }
-    Ok(coded as i32)
+    assert_eq!(t, BEFORE, "a refusal leaves t as it was");
+    Err(number)
 }
 
 /// 0, or the number of the refusal.
 fn open(bytes: &[u8]) -> u8 {
-    unsafe { compared_open(bytes.as_ptr(), bytes.len()) }
+    unsafe { sounder_open(bytes.as_ptr(), bytes.len()) }
 }
 
 const RECORD_LAYOUT: [(u8, usize); 5] = [(1, 4), (2, 34), (3, 176), (4, 176), (5, 4_224)];
@@ -159,58 +172,79 @@ fn kept(table: &[u8], scan: &[u8]) -> Vec<u32> {
         .collect()
 }
 
-/// A list of feeds as the proved function takes it: the records and the buffers each one after the other.
-pub struct LaidOut {
-    pub table: Vec<u8>,
-    pub scans: Vec<u8>,
-    pub sizes: Vec<u32>,
-    pub buffers: Vec<u8>,
-    pub rooms: Vec<u32>,
-    pub answers: Vec<u8>,
+/// Feeds a list to a fresh calibrator in one call: 0, or the number of the table's refusal.
+pub fn feed_all(list: &mut LaidOut) -> u8 {
+    unsafe {
+        sounder_feed_all(
+            list.table.as_ptr(),
+            list.table.len(),
+            list.records.as_ptr(),
+            list.records.len(),
+            list.record_lengths.as_ptr(),
+            list.record_lengths.len(),
+            list.buffers.as_mut_ptr(),
+            list.buffers.len(),
+            list.buffer_lengths.as_ptr(),
+            list.buffer_lengths.len(),
+            list.answers.as_mut_ptr(),
+            list.answers.len(),
+        )
+    }
 }
 
-impl LaidOut {
-    /// The answers are filled with a number that no feed is answered with.
-    pub fn of(list: &FeedList) -> LaidOut {
-        let feeds = &list.feeds;
-        LaidOut {
-            table: list.table.clone(),
-            scans: feeds.iter().flat_map(|feed| feed.record.clone()).collect(),
-            sizes: feeds.iter().map(|feed| feed.record.len() as u32).collect(),
-            buffers: feeds.iter().flat_map(|feed| feed.buffer.clone()).collect(),
-            rooms: feeds.iter().map(|feed| feed.buffer.len() as u32).collect(),
-            answers: vec![77; feeds.len()],
-        }
+/// Null pointers with a count of 0 are empty: an empty table is refused with 1, and under the bench
+/// table no feed is there.
+fn null_pointers(_: u64) -> Result<(), String> {
+    let table = TableValues::bench().encode();
+    let mut answers = [77; 3];
+    let (opened, refused, fed) = unsafe {
+        (
+            sounder_open(null(), 0),
+            sounder_feed_all(
+                null(),
+                0,
+                null(),
+                0,
+                null(),
+                0,
+                null_mut(),
+                0,
+                null(),
+                0,
+                null_mut(),
+                0,
+            ),
+            sounder_feed_all(
+                table.as_ptr(),
+                table.len(),
+                null(),
+                0,
+                null(),
+                0,
+                null_mut(),
+                0,
+                null(),
+                0,
+                answers.as_mut_ptr(),
+                answers.len(),
+            ),
+        )
+    };
+    if (opened, refused, fed, answers) == (1, 1, 0, [255; 3]) {
+        return Ok(());
     }
-
-    /// Feeds the list to a fresh calibrator: 0, or the number of the table's refusal.
-    pub fn feed(&mut self) -> u8 {
-        unsafe {
-            compared_feed_list(
-                self.table.as_ptr(),
-                self.table.len(),
-                self.scans.as_ptr(),
-                self.scans.len(),
-                self.sizes.as_ptr(),
-                self.sizes.len(),
-                self.buffers.as_mut_ptr(),
-                self.buffers.len(),
-                self.rooms.as_ptr(),
-                self.rooms.len(),
-                self.answers.as_mut_ptr(),
-                self.answers.len(),
-            )
-        }
-    }
+    Err(format!(
+        "null pointers: {opened} {refused} {fed} {answers:?}"
+    ))
 }
 
 /// What each feed of a list left.
 fn feeds(list: &FeedList) -> Vec<Outcome> {
     let mut laid_out = LaidOut::of(list);
-    assert_eq!(laid_out.feed(), 0, "a list has an accepted table");
+    assert_eq!(feed_all(&mut laid_out), 0, "a list has an accepted table");
     let mut rest = &laid_out.buffers[..];
     let mut outcomes = Vec::new();
-    for (answer, room) in laid_out.answers.iter().zip(&laid_out.rooms) {
+    for (answer, room) in laid_out.answers.iter().zip(&laid_out.buffer_lengths) {
         let (buffer, after) = rest.split_at(*room as usize);
         rest = after;
         outcomes.push(Outcome {
@@ -221,10 +255,10 @@ fn feeds(list: &FeedList) -> Vec<Outcome> {
     outcomes
 }
 
-/// What the proved listing program prints, run in a folder of its own.
-fn listing(table: Option<&[u8]>, input: &[u8]) -> String {
-    let program = Path::new(env!("CARGO_MANIFEST_DIR")).join("../target/bin/listing");
-    let folder = std::env::temp_dir().join(format!("listing-{}", std::process::id()));
+/// What a proved program writes to standard output and to standard error, run in a folder of its own.
+fn run_program(name: &str, table: Option<&[u8]>, input: &[u8]) -> (Vec<u8>, String) {
+    let program = Path::new(env!("CARGO_MANIFEST_DIR")).join(format!("../target/bin/{name}"));
+    let folder = std::env::temp_dir().join(format!("{name}-{}", std::process::id()));
     std::fs::create_dir_all(&folder).expect("a temporary folder");
     let file = folder.join("table.bin");
     match table {
@@ -235,8 +269,9 @@ fn listing(table: Option<&[u8]>, input: &[u8]) -> String {
         .current_dir(&folder)
         .stdin(Stdio::piped())
         .stdout(Stdio::piped())
+        .stderr(Stdio::piped())
         .spawn()
-        .expect("the listing program is built");
+        .expect("the program is built");
     let mut stdin = child.stdin.take().expect("a pipe");
     let bytes = input.to_vec();
     // A refused table ends the program before it has read its input.
@@ -244,13 +279,20 @@ fn listing(table: Option<&[u8]>, input: &[u8]) -> String {
     let output = child.wait_with_output().expect("the program ends");
     writer.join().expect("the input is written");
     drop(std::fs::remove_dir_all(&folder));
-    String::from_utf8(output.stdout).expect("lines of text")
+    let errors = String::from_utf8(output.stderr).expect("lines of text");
+    (output.stdout, errors)
+}
+
+fn listing(table: Option<&[u8]>, input: &[u8]) -> String {
+    let (lines, errors) = run_program("listing", table, input);
+    assert_eq!(errors, "", "the listing writes to standard output alone");
+    String::from_utf8(lines).expect("lines of text")
 }
 
 type Comparison = fn(u64) -> Result<(), String>;
 
 /// The comparisons by the name that `--case` takes, and how many cases of each are run for a thousand.
-pub const KINDS: [(&str, Comparison, u64); 11] = [
+pub const KINDS: [(&str, Comparison, u64); 13] = [
     ("floor_div", |seed| against::divisions(seed, floor_div), 10),
     ("round", |seed| against::roundings(seed, round), 10),
     ("numbers", |seed| against::numbers(seed, numbers), 200),
@@ -273,6 +315,12 @@ pub const KINDS: [(&str, Comparison, u64); 11] = [
     ),
     ("kept", |seed| against::kept_values(seed, kept), 30),
     ("feeds", |seed| against::feeds(seed, feeds), 80),
+    (
+        "one_call",
+        |seed| against::lists_in_one_call(seed, feed_all),
+        20,
+    ),
+    ("null_pointers", null_pointers, 1),
     ("listing", |seed| against::listings(seed, listing), 30),
 ];
 

@@ -10,7 +10,8 @@ use compare::generator::records::RecordValues;
 use compare::generator::tables::TableValues;
 use compare::generator::thermometers::{thermometer_input, ThermometerInput};
 use compare::product::LENGTH;
-use compare::proved::{self, LaidOut};
+use compare::proved;
+use compare::station::LaidOut;
 
 /// The least time of several rounds, in nanoseconds a call. The two take turns in each round.
 fn least_times(
@@ -109,8 +110,8 @@ fn scans(count: usize) -> FeedList {
 fn baseline_feeds(list: &LaidOut, buffers: &mut [u8]) {
     let table = baseline::open(&list.table).expect("the bench table is accepted");
     let mut calibrator = baseline::Calibrator::fresh(table);
-    let (mut scans, mut buffers) = (&list.scans[..], buffers);
-    for (size, room) in list.sizes.iter().zip(&list.rooms) {
+    let (mut scans, mut buffers) = (&list.records[..], buffers);
+    for (size, room) in list.record_lengths.iter().zip(&list.buffer_lengths) {
         let (record, later_scans) = scans.split_at(*size as usize);
         let (buffer, later_buffers) = buffers.split_at_mut(*room as usize);
         let _ = black_box(calibrator.feed(record, buffer));
@@ -125,7 +126,7 @@ fn feeds(count: usize, rounds: usize) {
     let (proved_time, baseline_time) = least_times(
         rounds,
         count,
-        || assert_eq!(black_box(list.feed()), 0),
+        || assert_eq!(black_box(proved::feed_all(&mut list)), 0),
         || baseline_feeds(black_box(&by_hand), &mut buffers),
     );
     assert!(list.answers.iter().all(|answer| *answer == 0));

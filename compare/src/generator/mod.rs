@@ -28,6 +28,8 @@ pub mod twins;
 
 pub mod listings;
 
+pub mod laid_out;
+
 /// An input close to another one, and the answer planned for it: 0 for accepted, or the number
 /// of the refusal.
 #[derive(Clone, Debug)]

@@ -1,23 +1,25 @@
 // The proved functions as C functions, for compare/ to call.
 ghost use mathlib.Core.Path.{_≡_};
+ghost use mathlib.Core.List.{_++_};
 ghost use Prim.Native.Nat.{_+_, _<_, _≤_};
 ghost use lib.IntN.{pos};
-ghost use lib.ListN.{length};
+ghost use lib.ListN.{length, drop};
 ghost use lib.Signed.{_<ℤ_};
 ghost use Rattle.integers.specs.Rounding.{floor, r};
 ghost use Rattle.fields.specs.Numbers.{u16At, u32At, i16At, i32At};
 ghost use Rattle.fields.specs.Fields.{headSize, fieldValue, layoutOf, layoutSize, layoutIsRight};
-ghost use Rattle.thermometer.specs.Reading.{reading};
 ghost use mathlib.Core.Bool.{true};
 ghost use Rattle.table.specs.Settings.{settingsOf};
-ghost use Rattle.table.specs.Opening.{ages, refusal, opening, opened};
+ghost use Rattle.table.specs.Opening.{ages};
 ghost use Rattle.acceptance.specs.Record.{recordLayout};
 ghost use Rattle.acceptance.specs.Accepted.{acceptedSamples};
 ghost use Rattle.acceptance.specs.Kept.{keptScan};
-ghost use Rattle.comparison.specs.Coded.{coded, keptAt, answersBy, buffersBy};
-use calibrator::Calibrator;
-use table::Opening;
-use thermometer::Reading;
+ghost use Rattle.scene.specs.Scene.{ConstantsRange};
+ghost use Rattle.product.specs.Product.{productOf, deliveredCount};
+ghost use Rattle.comparison.specs.KeptValues.{keptAt};
+ghost use Rattle.comparison.specs.AlikeChannels.{alikeChannels};
+use scene::Constants;
+use window::Channel;
 
 #[no_mangle]
 pub extern "C" fn compared_floor_div(a: i64, b: i64) -> i64
@@ -84,44 +86,6 @@ pub extern "C" fn compared_layout(bytes: &[u8], tags: &[u8], sizes: &[u16]) -> b
     fields::layout_is_right(bytes, tags, sizes)
 }
 
-// t, or 1,000,000 and the number of the refusal.
-#[no_mangle]
-pub extern "C" fn compared_thermometer(
-    rpam: u32,
-    r0: u32,
-    alpha: u32,
-    delta: u32,
-    beta: u32,
-    pam: u16,
-    offset: u16,
-    count: u16,
-) -> i64
-    ensures { λ z. ⌜ z ≡ coded (reading rpam r0 alpha delta beta pam offset count) ⌝ }
-{
-    let answer = thermometer::thermometer(rpam, r0, alpha, delta, beta, pam, offset, count);
-    match answer {
-        Reading::Units(t) => t,
-        Reading::CoefficientOutside => 1_000_008,
-        Reading::PamNotAboveOffset => 1_000_009,
-        Reading::RatioOutside => 1_000_010,
-    }
-}
-
-// 0, or the number of the refusal.
-#[no_mangle]
-pub extern "C" fn compared_open(bytes: &[u8]) -> u8
-    ensures { λ n. ⌜ n ≡ refusal (opened (now (bytes .entry)) .answer) ⌝ }
-{
-    let opened = table::open(bytes);
-    let answer = opened.answer;
-    match answer {
-        Opening::Accepted => 0,
-        Opening::LengthWrong => 1,
-        Opening::FieldWrong => 2,
-        Opening::ValueOutside => 3,
-    }
-}
-
 // Value k of what a scan keeps: 22 of the warm sides, 22 of the cold, 15 of the thermometers.
 #[no_mangle]
 pub extern "C" fn compared_kept(table: &[u8], scan: &[u8], k: usize) -> u32
@@ -141,35 +105,36 @@ pub extern "C" fn compared_kept(table: &[u8], scan: &[u8], k: usize) -> u32
     kelvin[k - 44]
 }
 
-// Opens the table and, where it is accepted, feeds a fresh calibrator the list: 0, or the number of the refusal.
-#[no_mangle]
-pub extern "C" fn compared_feed_list(
-    table: &[u8],
-    scans: &[u8],
-    sizes: &[u32],
-    buffers: &mut [u8],
-    rooms: &[u32],
-    answers: &mut [u8],
-) -> u8
-    ensures { λ n. ⌜ (n ≡ refusal (opening (now (table .entry)))) × (now (answers .exit) ≡ answersBy (opening (now (table .entry))) (now (table .entry)) (now (scans .entry)) (now (sizes .entry)) (now (buffers .entry)) (now (rooms .entry)) (now (answers .entry))) × (now (buffers .exit) ≡ buffersBy (opening (now (table .entry))) (now (table .entry)) (now (scans .entry)) (now (sizes .entry)) (now (buffers .entry)) (now (rooms .entry)) (length (now (answers .entry)))) ⌝ }
+fn alike_channels(constants: Constants) -> [Channel; 22]
+    ensures { λ r. ⌜ r ≡ alikeChannels constants ⌝ }
 {
-    let opened = table::open(table);
-    let answer = opened.answer;
-    let accepted = opened.table;
-    match answer {
-        Opening::Accepted => {
-            calibrator::feed_list(
-                Calibrator::fresh(accepted),
-                scans,
-                sizes,
-                buffers,
-                rooms,
-                answers,
-            );
-            0
-        }
-        Opening::LengthWrong => 1,
-        Opening::FieldWrong => 2,
-        Opening::ValueOutside => 3,
-    }
+    let channel = Channel { flag: 0, constants };
+    [channel; 22]
+}
+
+// A whole product, of channels with flag 0 that all have these constants: the writer alone, to be timed.
+#[no_mangle]
+pub extern "C" fn compared_product(
+    buffer: &mut [u8],
+    number: u32,
+    tc: i64,
+    rise: i64,
+    tnl: i64,
+    d: i64,
+    slope: i64,
+    base: i64,
+    earth: &[u8],
+) -> u32
+    requires { ⌜ (8706 ≤ length (now buffer)) × (length (now earth) ≡ 4224) × ConstantsRange (record { tc = tc; rise = rise; tnl = tnl; d = d; slope = slope; base = base }) ⌝ }
+    ensures { λ n. ⌜ (n ≡ deliveredCount (alikeChannels (record { tc = tc; rise = rise; tnl = tnl; d = d; slope = slope; base = base })) (now (earth .entry))) × (now (buffer .exit) ≡ productOf number (alikeChannels (record { tc = tc; rise = rise; tnl = tnl; d = d; slope = slope; base = base })) (now (earth .entry)) ++ drop 8706 (now (buffer .entry))) ⌝ }
+{
+    let constants = Constants {
+        tc,
+        rise,
+        tnl,
+        d,
+        slope,
+        base,
+    };
+    product::write_product(buffer, number, alike_channels(constants), earth)
 }

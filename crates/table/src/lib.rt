@@ -7,7 +7,7 @@ ghost use Rattle.lists.specs.Count.{every};
 ghost use Rattle.thermometer.specs.Reading.{fromTo};
 ghost use Rattle.table.specs.Settings.{settingsOf, channelAt, thermometerAt, limitsAt, limitsOf, leastOf, percentOf, correctionsOf, thermometers, channels};
 ghost use Rattle.table.specs.Ranges.{sizeTo, leastsInside, thermometerLimitsInside, thermometerInside, channelInside, sumsInside, valuesInside, firstOf, sizeOf, weightOf, targetOf};
-ghost use Rattle.table.specs.Opening.{ages, opened, noTable};
+ghost use Rattle.table.specs.Opening.{ages, refusal, opened, noTable};
 
 // An opened table. Only `open` makes one.
 pub struct Table {
@@ -414,6 +414,18 @@ pub fn target_of(c: usize) -> Target
         return Target::Kav;
     }
     Target::Wg
+}
+
+// Document 01's number for an answer; 0 for an accepted table.
+pub fn refusal_number(answer: Opening) -> u8
+    ensures { λ n. ⌜ n ≡ refusal answer ⌝ }
+{
+    match answer {
+        Opening::Accepted => 0,
+        Opening::LengthWrong => 1,
+        Opening::FieldWrong => 2,
+        Opening::ValueOutside => 3,
+    }
 }
 
 // A refusal gives no table: its bytes are all 0.

@@ -5,7 +5,7 @@ use Prim.Native.Nat.{ℕ, _-_, _<_, _≤_}
 use lib.ListN.{getD}
 use borrow.Author.Tests.{lt-ltb, le-ltb}
 use Rattle.acceptance.specs.declared.Scan.{Scan}
-use Rattle.comparison.specs.Coded.{keptAt}
+use Rattle.comparison.specs.KeptValues.{keptAt}
 use borrow.Author.Needs.{needs}
 use Rattle.comparison.proofs.compared_kept.Statement.{statement}
 use Rattle.comparison.proofs.compared_kept.Tie as tie

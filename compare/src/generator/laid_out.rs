@@ -1,0 +1,61 @@
+//! Lists of feeds laid out one after the other, whole or with something missing.
+
+use super::lists::feed_list;
+use super::random::Random;
+use super::random_tables::table_bytes;
+use crate::station::LaidOut;
+
+/// Takes some from the end.
+fn cut<T>(random: &mut Random, values: &mut Vec<T>) {
+    let any = random.below(values.len() + 1);
+    let less = random.pick(&[1, 1, 2, any]).min(values.len());
+    values.truncate(values.len() - less);
+}
+
+/// Makes one length the greatest there is, 0, or one off.
+fn change_one(random: &mut Random, lengths: &mut [u32]) {
+    if lengths.is_empty() {
+        return;
+    }
+    let index = random.below(lengths.len());
+    let length = lengths[index];
+    let choices = [u32::MAX, 0, length.wrapping_sub(1), length.wrapping_add(1)];
+    lengths[index] = random.pick(&choices);
+}
+
+pub fn laid_out(seed: u64) -> LaidOut {
+    let mut random = Random::new(seed);
+    let mut list = LaidOut::of(&feed_list(random.next()));
+    match random.below(12) {
+        0 => list.table = table_bytes(random.next()),
+        1 => cut(&mut random, &mut list.table),
+        2 => cut(&mut random, &mut list.records),
+        3 => cut(&mut random, &mut list.buffers),
+        4 => cut(&mut random, &mut list.record_lengths),
+        5 => cut(&mut random, &mut list.buffer_lengths),
+        6 => cut(&mut random, &mut list.answers),
+        7 => change_one(&mut random, &mut list.record_lengths),
+        8 => change_one(&mut random, &mut list.buffer_lengths),
+        9 => list.answers.extend(vec![77; random.below(4)]),
+        10 => {
+            list.records.extend(random.bytes(9));
+            list.buffers.extend(random.bytes(9));
+            list.record_lengths.push(9);
+            list.buffer_lengths.push(10);
+        }
+        _ => {}
+    }
+    list
+}
+
+/// Nothing in any of the six.
+pub fn empty() -> LaidOut {
+    LaidOut {
+        table: Vec::new(),
+        records: Vec::new(),
+        record_lengths: Vec::new(),
+        buffers: Vec::new(),
+        buffer_lengths: Vec::new(),
+        answers: Vec::new(),
+    }
+}

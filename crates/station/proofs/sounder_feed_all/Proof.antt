@@ -1,0 +1,84 @@
+-- `station::sounder_feed_all` meets its contract: an accepted table's fresh calibrator is fed the list, and a refused table writes
+-- nothing. Assumes nothing.
+use Prim.Native.Nat.{ℕ}
+use mathlib.Core.Path.{_≡_, refl, sym, ap, _∙_}
+use mathlib.Core.List.{List}
+use lib.ListN.{length}
+use Rattle.lists.specs.Build.{tabulate}
+use Rattle.table.specs.declared.Opening.{Opening}
+use Rattle.table.specs.declared.Opening.the-variants.{Accepted, LengthWrong, FieldWrong, ValueOutside}
+use Rattle.table.specs.Opening.{opening, refusal}
+use Rattle.calibrator.specs.declared.Calibrator.{Calibrator}
+use Rattle.calibrator.specs.Feeding.{freshOf}
+use Rattle.calibrator.specs.FeedList.{answerAt, buffersAt}
+use Rattle.station.specs.Calls.{answersBy, buffersBy}
+use Rattle.station.proofs.OpenedLaws.{number-is, opening-accepted, table-is, accepted-table}
+use borrow.Author.Needs.{needs}
+use Rattle.station.proofs.sounder_feed_all.Statement.{statement}
+use Rattle.station.proofs.sounder_feed_all.Tie as tie
+
+-- ---- what the list leaves, by the answer
+module _ (table records recordLengths buffers bufferLengths answers : List ℕ) where
+  answers-when : {o : Opening} → opening table ≡ o → {out : List ℕ} → out ≡ answersBy o table records recordLengths buffers bufferLengths answers → out ≡ answersBy (opening table) table records recordLengths buffers bufferLengths answers
+  answers-when e h = h ∙ sym (ap (λ (o : Opening). answersBy o table records recordLengths buffers bufferLengths answers) e)
+
+  buffers-when : {o : Opening} → opening table ≡ o → {out : List ℕ} → out ≡ buffersBy o table records recordLengths buffers bufferLengths (length answers) → out ≡ buffersBy (opening table) table records recordLengths buffers bufferLengths (length answers)
+  buffers-when e h = h ∙ sym (ap (λ (o : Opening). buffersBy o table records recordLengths buffers bufferLengths (length answers)) e)
+
+  refused-writes-nothing : (o : Opening) → (refusal o ≡ 0 → ⊥) → (answers ≡ answersBy o table records recordLengths buffers bufferLengths answers) × (buffers ≡ buffersBy o table records recordLengths buffers bufferLengths (length answers))
+  refused-writes-nothing Accepted h = absurd (h refl)
+  refused-writes-nothing LengthWrong h = (refl, refl)
+  refused-writes-nothing FieldWrong h = (refl, refl)
+  refused-writes-nothing ValueOutside h = (refl, refl)
+
+open-requires : tie.Need-open-requires
+open-requires c κs = search needs
+
+refusal-number-requires : tie.Need-refusal-number-requires
+refusal-number-requires c κs = search needs
+
+returns : tie.Need-returns
+returns c =
+    let number = number-is _ (c .before .before .«open» .ensures) (c .before .refusal-number .ensures) in
+    let a = c .before .before .before .before .before .before .before .before .before .args in
+    let nothing = refused-writes-nothing (a .table .now) (a .records .now) (a .record-lengths .now) (a .buffers .now) (a .buffer-lengths .now) (a .answers .now) (opening (a .table .now)) (λ zero. c .if1 .taken (number ∙ zero)) in
+    (number, nothing .0, nothing .1)
+
+fresh-requires : tie.Need-fresh-requires
+fresh-requires c κs = accepted-table _ (c .before .before .before .«open» .ensures) (c .before .before .refusal-number .ensures) (c .before .if1 .left)
+
+feed-list-requires : tie.Need-feed-list-requires
+feed-list-requires c κs = search needs
+
+same-length : tie.Need-same-length
+same-length c = search needs
+
+same-length-2 : tie.Need-same-length-2
+same-length-2 c = search needs
+
+returns-2 : tie.Need-returns-2
+returns-2 c =
+    let a = c .before .before .before .before .before .before .before .before .before .before .before .before .before .before .before .before .before .before .args in
+    let opened = c .before .before .before .before .before .before .before .before .before .before .before .«open» .ensures in
+    let number = c .before .before .before .before .before .before .before .before .before .before .refusal-number .ensures in
+    let zero = c .before .before .before .before .before .before .before .before .before .if1 .left in
+    let o = opening-accepted _ opened number zero in
+    let first = c .before .before .before .before .before .before .before .fresh .ensures .0 ∙ ap freshOf (table-is _ opened number zero) in
+    let f = c .before .before .before .before .feed-list .ensures in (
+      sym (ap refusal o),
+      answers-when _ _ _ _ _ _ o (f .0 ∙ ap (λ (x : Calibrator). tabulate (answerAt x (a .records .now) (a .record-lengths .now) (a .buffers .now) (a .buffer-lengths .now)) (length (a .answers .now))) first),
+      buffers-when _ _ _ _ _ (a .answers .now) o (f .1 ∙ ap (λ (x : Calibrator). buffersAt x (a .records .now) (a .record-lengths .now) (a .buffers .now) (a .buffer-lengths .now) (length (a .answers .now))) first),
+    )
+
+pub sounder-feed-all-spec : {M : Type 1} → statement M
+sounder-feed-all-spec =
+    tie.close
+    (tie.spec
+    open-requires
+    refusal-number-requires
+    returns
+    fresh-requires
+    feed-list-requires
+    same-length
+    same-length-2
+    returns-2)

@@ -1,0 +1,77 @@
+// The C functions for stations, declared in include/sounder.h.
+ghost use mathlib.Core.Path.{_≡_};
+ghost use lib.ListN.{length};
+ghost use Rattle.thermometer.specs.Reading.{reading};
+ghost use Rattle.thermometer.specs.Reading.{refusal as Reading·refusal};
+ghost use Rattle.table.specs.Opening.{opening};
+ghost use Rattle.table.specs.Opening.{refusal as Opening·refusal};
+ghost use Rattle.station.specs.Calls.{unitsOr, answersBy, buffersBy};
+use calibrator::Calibrator;
+use thermometer::Reading;
+
+// Document 01, "Opening a table": 0, or 1 to 3.
+#[no_mangle]
+pub extern "C" fn sounder_open(table: &[u8]) -> u8
+    ensures { λ n. ⌜ n ≡ Opening·refusal (opening (now (table .entry))) ⌝ }
+{
+    let opened = table::open(table);
+    let answer = opened.answer;
+    table::refusal_number(answer)
+}
+
+// Document 01, "One thermometer": 0 and t in units of °C, or 8 to 10 and t as it was.
+#[no_mangle]
+pub extern "C" fn sounder_thermometer(
+    r_pam: u32,
+    r0: u32,
+    alpha: u32,
+    delta: u32,
+    beta: u32,
+    pam: u16,
+    offset: u16,
+    count: u16,
+    t: &mut i32,
+) -> u8
+    ensures { λ n. ⌜ (n ≡ Reading·refusal (reading «r_pam» r0 alpha delta beta pam offset count)) × (now (t .exit) ≡ unitsOr (reading «r_pam» r0 alpha delta beta pam offset count) (now (t .entry))) ⌝ }
+{
+    let answer = thermometer::thermometer(r_pam, r0, alpha, delta, beta, pam, offset, count);
+    match answer {
+        Reading::Units(units) => {
+            *t = units as i32;
+            0
+        }
+        Reading::CoefficientOutside => 8,
+        Reading::PamNotAboveOffset => 9,
+        Reading::RatioOutside => 10,
+    }
+}
+
+// Opens the table and, where it is accepted, feeds a fresh calibrator the list: 0, or the number of the refusal.
+#[no_mangle]
+pub extern "C" fn sounder_feed_all(
+    table: &[u8],
+    records: &[u8],
+    record_lengths: &[u32],
+    buffers: &mut [u8],
+    buffer_lengths: &[u32],
+    answers: &mut [u8],
+) -> u8
+    ensures { λ n. ⌜ (n ≡ Opening·refusal (opening (now (table .entry)))) × (now (answers .exit) ≡ answersBy (opening (now (table .entry))) (now (table .entry)) (now (records .entry)) (now («record_lengths» .entry)) (now (buffers .entry)) (now («buffer_lengths» .entry)) (now (answers .entry))) × (now (buffers .exit) ≡ buffersBy (opening (now (table .entry))) (now (table .entry)) (now (records .entry)) (now («record_lengths» .entry)) (now (buffers .entry)) (now («buffer_lengths» .entry)) (length (now (answers .entry)))) ⌝ }
+{
+    let opened = table::open(table);
+    let answer = opened.answer;
+    let number = table::refusal_number(answer);
+    if number != 0 {
+        return number;
+    }
+    let accepted = opened.table;
+    calibrator::feed_list(
+        Calibrator::fresh(accepted),
+        records,
+        record_lengths,
+        buffers,
+        buffer_lengths,
+        answers,
+    );
+    0
+}
