@@ -5,10 +5,10 @@ use Prim.Native.Nat.{ℕ, zero, suc, _≤_, _<_, _/_}
 use native.Mathlib.Nat.{lt-of-le-of-lt, div-le-self}
 use native.Mathlib.Omega.{arith}
 use lib.IntN.{ℤ, pos, negsuc, negℤ, natAbs}
-use lib.Dec.{leb→le, le→leb}
-use lib.Signed.{_≤ℤ_, _<ℤ_, ltZ, mag, mag-rem, mag-shr, quotZ, remZ}
+use lib.Dec.{T, leb→le, le→leb}
+use lib.Signed.{_≤ℤ_, _<ℤ_, ltZ, nonNeg, mag, mag-rem, mag-shr, quotZ, remZ}
 use mir.Syntax.{w64}
-use mir.Val.{SFits, toZ, ofZ}
+use mir.Val.{Fits, SFits, toZ, ofZ}
 use mir.ValLaws.{toZ-ofZ, toZ-pos}
 use Rattle.integers.specs.Rounding.{floor}
 use Rattle.integers.specs.Bounds.{Bounded}
@@ -49,6 +49,11 @@ result-reads-back x h = toZ-ofZ w64 x (record { sfits = h })
 -- an unsigned number, cast
 pub natural-reads-back : (n : ℕ) → n < 9223372036854775808 → toZ w64 n ≡ pos n
 natural-reads-back n h = toZ-pos w64 n h
+
+-- ---- a number that is not negative, cast to an unsigned one
+pub unsigned-fits : {x : ℤ} → pos 0 ≤ℤ x → SFits w64 x → T (nonNeg x) × Fits w64 (natAbs x)
+unsigned-fits {x = pos n} h f = (tt, record { fits = omega (arith, f .sfits) })
+unsigned-fits {x = negsuc n} h f = absurd (h .le)
 
 -- ---- division
 pub above-zero-bits : {b : ℤ} → pos 0 <ℤ b → 0 < ofZ w64 b

@@ -1,5 +1,6 @@
 // Whole-number division and rounding on i64, and the laws on ℤ that every other crate uses.
 ghost use mathlib.Core.Path.{_≡_};
+ghost use Prim.Native.Nat.{_<_, _≤_};
 ghost use lib.IntN.{pos, _-ℤ_, _*ℤ_};
 ghost use lib.Signed.{_<ℤ_, _≤ℤ_};
 ghost use Rattle.integers.specs.Rounding.{floor, r};
@@ -48,4 +49,12 @@ pub fn round_small(a: i64, b: i64) -> i64
     ensures { λ q. ⌜ q ≡ r a b ⌝ }
 {
     floor_div(2 * a + b, 2 * b)
+}
+
+// r(a, 2 half) of natural numbers: nothing to correct, and where half is a constant power of two a shift.
+pub fn round_natural(a: u64, half: u64) -> u64
+    requires { ⌜ (a ≤ 4611686018427387904) × (0 < half) × (half ≤ 4611686018427387904) ⌝ }
+    ensures { λ q. ⌜ pos q ≡ r (pos a) (pos 2 *ℤ pos half) ⌝ }
+{
+    (a + half) / (2 * half)
 }

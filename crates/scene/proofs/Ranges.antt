@@ -1,16 +1,18 @@
 -- The range of every number on the way to a scene. For a channel's constants N is within 51,136,960,500 at every count; where it is not
--- negative and 4N is at most 5D, X is within 81,920 and T within 1,832,984. The greatest is N(Tw - Tc), below 10^17, so each fits an i64.
+-- negative and 4N is at most 5D, X is within 81,920 and T within 1,832,984. The greatest signed number is N(Tw - Tc), below 10^17, and
+-- the greatest unsigned one 2^27 N, below 2^63, so each fits.
 use mathlib.Core.List.{[], _∷_}
 use Prim.Native.Nat.{ℕ, _≤_}
 use lib.IntN.{ℤ, pos, negℤ, _+ℤ_, _-ℤ_, _*ℤ_}
 use lib.Signed.{_≤ℤ_, _<ℤ_, ltZ-yes}
-use Rattle.integers.specs.Rounding.{r}
+use Rattle.integers.specs.Rounding.{floor, r}
 use Rattle.integers.specs.Bounds.{Bounded}
-use Rattle.integers.proofs.Ring.{_:-_, _:*_, opp, #, v0, v1, v2}
+use Rattle.integers.proofs.Ring.{_:+_, _:-_, _:*_, opp, #, v0, v1, v2}
 use Rattle.integers.proofs.Certificate.{_:≤_, _:<_, hyp, nat, _⊕_, _⊗_, le-by}
 use Rattle.integers.proofs.Bounds.{bounded-sum, bounded-difference, bounded-product, bounded-not-negative, bounded-by-itself, natural-bounded}
 use Rattle.integers.proofs.Order.{below-at-most, product-not-negative}
 use Rattle.integers.proofs.Naturals.{natural-not-negative}
+use Rattle.integers.proofs.Floor.{floor-bounded}
 use Rattle.integers.proofs.Nearest.{r-within-half, within-half-at-most, within-half-at-least}
 use Rattle.scene.specs.declared.Constants.{Constants}
 use Rattle.scene.specs.Temperature.{X, temperature}
@@ -25,6 +27,30 @@ r-bounded a {b} {m} p h = record {
 
 pub number-bounded : (n : ℕ) → Bounded (pos n) (pos n)
 number-bounded n = bounded-by-itself (natural-not-negative n)
+
+-- ---- the bend
+module _ {x tnl : ℤ} (h : Bounded x (pos 81920)) (k : Bounded tnl (pos 8192)) where
+  pub four-x-bounded : Bounded (pos 4 *ℤ x) (pos 327680)
+  four-x-bounded = bounded-product (number-bounded 4) h
+
+  pub rest-of-x-bounded : Bounded (pos 65536 -ℤ x) (pos 147456)
+  rest-of-x-bounded = bounded-difference (number-bounded 65536) h
+
+  pub x-product-bounded : Bounded (pos 4 *ℤ x *ℤ (pos 65536 -ℤ x)) (pos 48318382080)
+  x-product-bounded = bounded-product four-x-bounded rest-of-x-bounded
+
+  pub x-tnl-bounded : Bounded (pos 4 *ℤ x *ℤ (pos 65536 -ℤ x) *ℤ tnl) (pos 395824185999360)
+  x-tnl-bounded = bounded-product x-product-bounded k
+
+  -- 2^20 times 2^32 more than what is rounded
+  pub raised-not-negative : pos 0 ≤ℤ (pos 4 *ℤ x *ℤ (pos 65536 -ℤ x) *ℤ tnl +ℤ pos 4503599627370496)
+  raised-not-negative = (le-by ((pos 4 *ℤ x *ℤ (pos 65536 -ℤ x) *ℤ tnl) ∷ []) ((opp (# 395824185999360) :≤ v0) ∷ []) (# 0) (v0 :+ # 4503599627370496) (hyp 0 ⊕ hyp 1) tt (x-tnl-bounded .low))
+
+  pub raised-bounded : Bounded (pos 4 *ℤ x *ℤ (pos 65536 -ℤ x) *ℤ tnl +ℤ pos 4503599627370496) (pos 4899423813369856)
+  raised-bounded = bounded-sum x-tnl-bounded (number-bounded 4503599627370496)
+
+  pub bend-bounded : Bounded (r (pos 4 *ℤ x *ℤ (pos 65536 -ℤ x) *ℤ tnl) (pos 4294967296)) (pos 92160)
+  bend-bounded = r-bounded (pos 4 *ℤ x *ℤ (pos 65536 -ℤ x) *ℤ tnl) (ltZ-yes tt) x-tnl-bounded
 
 -- ---- the constants
 module _ {k : Constants} (h : ConstantsRange k) where
@@ -71,8 +97,9 @@ module _ {k : Constants} (h : ConstantsRange k) where
     pub n-bounded : Bounded n (pos 63921200625)
     n-bounded = bounded-not-negative low (le-by (n ∷ (k .d) ∷ []) ((# 4 :* v0 :≤ # 5 :* v1) ∷ (v1 :≤ # 51136960500) ∷ []) v0 (# 63921200625) (nat 4 ⊗ hyp 0 ⊕ hyp 1 ⊕ nat 5 ⊗ hyp 2) tt high (h .d-high))
 
-    pub scaled-n-bounded : Bounded (pos 65536 *ℤ n) (pos 4189139804160000)
-    scaled-n-bounded = bounded-product (number-bounded 65536) n-bounded
+    -- N / D in 2^27ths, cut off
+    pub parts-bounded : Bounded (floor (pos 134217728 *ℤ n) (k .d)) (pos 167772160)
+    parts-bounded = floor-bounded (pos 134217728 *ℤ n) (h .d-low) (bounded-not-negative (le-by (n ∷ []) ((# 0 :≤ v0) ∷ []) (# 0) (# 134217728 :* v0) (hyp 0 ⊕ nat 134217728 ⊗ hyp 1) tt low) (le-by (n ∷ (k .d) ∷ []) ((# 4 :* v0 :≤ # 5 :* v1) ∷ []) (# 134217728 :* v0) (# 167772160 :* v1) (hyp 0 ⊕ nat 33554432 ⊗ hyp 1) tt high))
 
     pub x-bounded : Bounded (X n (k .d)) (pos 81920)
     x-bounded = r-bounded (pos 65536 *ℤ n) (h .d-low) (bounded-not-negative (le-by (n ∷ []) ((# 0 :≤ v0) ∷ []) (# 0) (# 65536 :* v0) (hyp 0 ⊕ nat 65536 ⊗ hyp 1) tt low) (le-by (n ∷ (k .d) ∷ []) ((# 4 :* v0 :≤ # 5 :* v1) ∷ []) (# 65536 :* v0) (# 81920 :* v1) (hyp 0 ⊕ nat 16384 ⊗ hyp 1) tt high))
@@ -83,24 +110,9 @@ module _ {k : Constants} (h : ConstantsRange k) where
     pub linear-bounded : Bounded (r (n *ℤ k .rise) (k .d)) (pos 1696890)
     linear-bounded = r-bounded (n *ℤ k .rise) (h .d-low) (bounded-not-negative (product-not-negative low rise-not-negative) (le-by (n ∷ (k .d) ∷ (k .rise) ∷ []) ((# 0 :< v1) ∷ (# 0 :≤ v2) ∷ (v2 :≤ # 1357512) ∷ (# 4 :* v0 :≤ # 5 :* v1) ∷ []) (v0 :* v2) (# 1696890 :* v1) (nat 4 ⊗ hyp 0 ⊕ nat 5 ⊗ hyp 3 ⊕ nat 5 ⊗ hyp 1 ⊗ hyp 3 ⊕ hyp 2 ⊗ hyp 4) tt (h .d-low) rise-not-negative (h .rise-high) high))
 
-    pub four-x-bounded : Bounded (pos 4 *ℤ X n (k .d)) (pos 327680)
-    four-x-bounded = bounded-product (number-bounded 4) x-bounded
-
-    pub rest-of-x-bounded : Bounded (pos 65536 -ℤ X n (k .d)) (pos 147456)
-    rest-of-x-bounded = bounded-difference (number-bounded 65536) x-bounded
-
-    pub x-product-bounded : Bounded (pos 4 *ℤ X n (k .d) *ℤ (pos 65536 -ℤ X n (k .d))) (pos 48318382080)
-    x-product-bounded = bounded-product four-x-bounded rest-of-x-bounded
-
-    pub x-tnl-bounded : Bounded (pos 4 *ℤ X n (k .d) *ℤ (pos 65536 -ℤ X n (k .d)) *ℤ k .tnl) (pos 395824185999360)
-    x-tnl-bounded = bounded-product x-product-bounded (h .tnl)
-
-    pub bend-bounded : Bounded (r (pos 4 *ℤ X n (k .d) *ℤ (pos 65536 -ℤ X n (k .d)) *ℤ k .tnl) (pos 4294967296)) (pos 92160)
-    bend-bounded = r-bounded (pos 4 *ℤ X n (k .d) *ℤ (pos 65536 -ℤ X n (k .d)) *ℤ k .tnl) (ltZ-yes tt) x-tnl-bounded
-
     pub linear-sum-bounded : Bounded (k .tc +ℤ r (n *ℤ k .rise) (k .d)) (pos 1740824)
     linear-sum-bounded = bounded-sum tc-bounded linear-bounded
 
     pub temperature-bounded : Bounded (temperature (k .tc) (k .rise) (k .tnl) (k .d) n) (pos 1832984)
     unfolding temperature
-    temperature-bounded = bounded-sum linear-sum-bounded bend-bounded
+    temperature-bounded = bounded-sum linear-sum-bounded (bend-bounded x-bounded (h .tnl))
