@@ -11,6 +11,7 @@ use Rattle.integers.proofs.Order.{at-most-trans, leZ-true, ltZ-false, at-most-t
 use Rattle.thermometer.specs.declared.Reading.{Reading}
 use Rattle.thermometer.specs.declared.Reading.the-variants.{Units, CoefficientOutside, PamNotAboveOffset, RatioOutside}
 use Rattle.thermometer.specs.Rule.{M, F, lowest, highest, unitsAt, greatest, answer, InRange, Greatest}
+use Rattle.thermometer.specs.Search.{AllReachedBefore}
 use Rattle.thermometer.specs.Reading.{Admissible, refusal, resistanceInside, coefficientsInside, reading}
 use Rattle.thermometer.proofs.Rises.{rises-over}
 use Rattle.thermometer.proofs.Places.{place-in-range, placeOf, place-of, place-at-most, units-order}
@@ -83,9 +84,6 @@ module _ (alpha delta beta : ℕ) (m : ℤ) where
   }
 
 -- ---- F rises, so one place that isn't reached bounds all that are
-abbrev pub AllReachedBefore : (alpha delta beta : ℕ) → ℤ → ℕ → Type 0
-AllReachedBefore alpha delta beta m past = (j : ℕ) → j ≤ 491520 → F alpha delta beta (unitsAt j) ≤ℤ m → j < past
-
 pub reached-before : {alpha delta beta : ℕ} {m : ℤ} → Admissible alpha delta beta → (past : ℕ) → past ≤ 491520 → m <ℤ F alpha delta beta (unitsAt past) → AllReachedBefore alpha delta beta m past
 reached-before admissible past inside above j h reached = go (decLt j past)
   where

@@ -18,7 +18,7 @@ use Rattle.thermometer.specs.Reading.{Admissible}
 abbrev pub bracket : (delta beta : ℕ) → ℤ → ℤ
 bracket delta beta t = pos 256 *ℤ t -ℤ s1 delta t -ℤ s2 beta t
 
-number-bounded : (n : ℕ) → Bounded (pos n) (pos n)
+pub number-bounded : (n : ℕ) → Bounded (pos n) (pos n)
 number-bounded n = bounded-by-itself (natural-not-negative n)
 
 -- a floor is at most n where n times the divisor is at least the bound of what is divided
@@ -88,7 +88,7 @@ module _ {t : ℤ} (range : InRange t) where
         (floor-at-most 5208722 (pos alpha *ℤ bracket delta beta t) (pos 62500000) tt tt alpha-bracket-bounded)
 
 -- ---- each fits an i64
-fits : {x : ℤ} {m : ℕ} → Bounded x (pos m) → T (ltb m 9223372036854775808) → SFits w64 x
+pub fits : {x : ℤ} {m : ℕ} → Bounded x (pos m) → T (ltb m 9223372036854775808) → SFits w64 x
 fits k small = bounded-fits k (lit< small)
 
 module _ {t : ℤ} (range : InRange t) where

@@ -3,4 +3,5 @@ pub mod Rises
 pub mod Places
 pub mod Ranges
 pub mod Answer
+pub mod Search
 pub mod Bench

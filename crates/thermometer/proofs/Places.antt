@@ -2,9 +2,9 @@
 use mathlib.Core.Path.{_≡_}
 use Prim.Native.Nat.{ℕ, _+_, _-_, _≤_}
 use native.Mathlib.Omega.{arith}
-use lib.IntN.{ℤ, pos}
+use lib.IntN.{ℤ, pos, _+ℤ_}
 use lib.Signed.{_≤ℤ_}
-use Rattle.integers.proofs.Linear.{plus, minus, order, parts-equal, difference-parts}
+use Rattle.integers.proofs.Linear.{plus, minus, order, parts-equal, sum-parts, difference-parts}
 use Rattle.thermometer.specs.Rule.{unitsAt, InRange}
 
 pub place-in-range : {k : ℕ} → k ≤ 491520 → InRange (unitsAt k)
@@ -21,6 +21,12 @@ place-of {t} range = parts-equal (unitsAt (placeOf t)) t (omega (arith, order, d
 
 pub place-at-most : {t : ℤ} → InRange t → placeOf t ≤ 491520
 place-at-most {t} range = omega (arith, order)
+
+pub place-counted : {t : ℤ} → InRange t → t +ℤ pos 245760 ≡ pos (placeOf t)
+place-counted {t} range = parts-equal (t +ℤ pos 245760) (pos (placeOf t)) (omega (arith, order, sum-parts t (pos 245760)))
+
+pub place-inside : {k : ℕ} → InRange (unitsAt k) → k ≤ 491520
+place-inside {k} range = omega (arith, order, difference-parts (pos k) (pos 245760))
 
 -- numbers are ordered as their places
 pub units-order : {i j : ℕ} → i ≤ j → unitsAt i ≤ℤ unitsAt j

@@ -1,8 +1,11 @@
 // Document 01, "Thermometer rule (equations 18, 19)" and "One thermometer".
 ghost use mathlib.Core.Path.{_≡_};
 ghost use Prim.Native.Nat.{_≤_, _<_};
+ghost use lib.IntN.{pos, _+ℤ_};
 ghost use lib.Signed.{_≤ℤ_};
+ghost use Rattle.integers.specs.Bounds.{Bounded};
 ghost use Rattle.thermometer.specs.Rule.{M, F, answer, lowest, unitsAt, InRange};
+ghost use Rattle.thermometer.specs.Search.{heldBetween, onLine, onChord, nearbyUnits, reachedAt, pastAt, Encloses};
 ghost use Rattle.thermometer.specs.Reading.{Admissible, resistanceInside, coefficientsInside, reading};
 use integers::floor_div;
 
@@ -36,13 +39,84 @@ fn ratio_at(alpha: u32, delta: u32, beta: u32, k: u64) -> i64
     ratio(alpha, delta, beta, k as i64 - 245_760)
 }
 
-// The greatest t with F(t) at most m, by halving: F rises with t.
-fn greatest_units(alpha: u32, delta: u32, beta: u32, m: i64) -> i64
+// t, or the end of low..high that it is beyond.
+fn held_between(low: i64, high: i64, t: i64) -> i64
+    ensures { λ u. ⌜ u ≡ heldBetween low high t ⌝ }
+{
+    if t < low {
+        return low;
+    }
+    if high < t {
+        return high;
+    }
+    t
+}
+
+// Where a line through F(0) that rises by alpha / 240,000 a unit comes to m.
+fn on_line(alpha: u32, m: i64) -> i64
+    requires { ⌜ (3000000 ≤ alpha) × Bounded m (pos 22000000) ⌝ }
+    ensures { λ t. ⌜ t ≡ onLine alpha m ⌝ }
+{
+    let t = floor_div((m - 16_777_216) * 240_000, alpha as i64);
+    held_between(-245_760, 243_712, t)
+}
+
+// Where the chord of F from t to t + 2,048 comes to m.
+fn on_chord(alpha: u32, delta: u32, beta: u32, m: i64, t: i64) -> i64
+    requires { ⌜ Admissible alpha delta beta × Bounded m (pos 22000000) × InRange t × InRange (t +ℤ pos 2048) ⌝ }
+    ensures { λ u. ⌜ u ≡ onChord alpha delta beta m t ⌝ }
+{
+    let from = ratio(alpha, delta, beta, t);
+    let to = ratio(alpha, delta, beta, t + 2_048);
+    let u = t + floor_div((m - from) * 2_048, to - from);
+    held_between(-245_760, 245_760, u)
+}
+
+// A place near that of the answer, by one step of the secant method: F is nearly a line. It is never above 22,000,000.
+fn nearby(alpha: u32, delta: u32, beta: u32, m: i64) -> u64
     requires { ⌜ Admissible alpha delta beta × (F alpha delta beta lowest ≤ℤ m) ⌝ }
+    ensures { λ k. ⌜ unitsAt k ≡ nearbyUnits alpha delta beta m ⌝ }
+{
+    if 22_000_000 < m {
+        return 491_520;
+    }
+    let t = on_line(alpha, m);
+    let u = on_chord(alpha, delta, beta, m, t);
+    (u + 245_760) as u64
+}
+
+// A place at which F is at most m: `near`, and else the first.
+fn reached_at(alpha: u32, delta: u32, beta: u32, m: i64, near: u64) -> u64
+    requires { ⌜ Admissible alpha delta beta × (near ≤ 491520) ⌝ }
+    ensures { λ k. ⌜ k ≡ reachedAt alpha delta beta m near ⌝ }
+{
+    if ratio_at(alpha, delta, beta, near) <= m {
+        return near;
+    }
+    0
+}
+
+// A place from which on F is above m: two after `near`, and else one after the last.
+fn past_at(alpha: u32, delta: u32, beta: u32, m: i64, near: u64) -> u64
+    requires { ⌜ Admissible alpha delta beta × (near ≤ 491520) ⌝ }
+    ensures { λ k. ⌜ k ≡ pastAt alpha delta beta m near ⌝ }
+{
+    if 491_518 < near {
+        return 491_521;
+    }
+    if m < ratio_at(alpha, delta, beta, near + 2) {
+        return near + 2;
+    }
+    491_521
+}
+
+// The greatest t with F(t) at most m, by halving between two places that enclose it: F rises with t.
+fn greatest_between(alpha: u32, delta: u32, beta: u32, m: i64, first: u64, end: u64) -> i64
+    requires { ⌜ Admissible alpha delta beta × Encloses alpha delta beta m first end ⌝ }
     ensures { λ t. ⌜ t ≡ answer alpha delta beta m ⌝ }
 {
-    let mut reached: u64 = 0;
-    let mut past: u64 = 491_521;
+    let mut reached = first;
+    let mut past = end;
     while past - reached > 1 {
         let middle = reached + (past - reached) / 2;
         if ratio_at(alpha, delta, beta, middle) <= m {
@@ -52,6 +126,17 @@ fn greatest_units(alpha: u32, delta: u32, beta: u32, m: i64) -> i64
         }
     }
     reached as i64 - 245_760
+}
+
+// The greatest t with F(t) at most m. The halving starts around a guess, from ends that F confirms.
+fn greatest_units(alpha: u32, delta: u32, beta: u32, m: i64) -> i64
+    requires { ⌜ Admissible alpha delta beta × (F alpha delta beta lowest ≤ℤ m) ⌝ }
+    ensures { λ t. ⌜ t ≡ answer alpha delta beta m ⌝ }
+{
+    let near = nearby(alpha, delta, beta, m);
+    let reached = reached_at(alpha, delta, beta, m, near);
+    let past = past_at(alpha, delta, beta, m, near);
+    greatest_between(alpha, delta, beta, m, reached, past)
 }
 
 // M, 2^24 times the measured ratio.

@@ -1,107 +1,50 @@
--- `thermometer::greatest_units` meets its contract. `reached` is reached and every place that is reached is before `past`: F rises, so
--- where the middle isn't reached, no later place is. At the end `past` is one after `reached`. Assumes nothing.
-use mathlib.Core.Path.{_≡_, sym, _∙_}
-use Prim.Native.Nat.{ℕ, _+_, _-_, _/_, _≤_, _<_}
-use native.Mathlib.Omega.{arith}
-use lib.IntN.{pos}
-use lib.Signed.{_≤ℤ_}
+-- `thermometer::greatest_units` meets its contract: the guess is a place of the range, and whatever it is, the two ends that F confirms
+-- enclose the answer. Assumes nothing.
+use mathlib.Core.Path.{_≡_, sym, subst, _∙_}
+use Prim.Native.Nat.{_≤_}
 use mir.Syntax.{w64}
 use mir.Val.{toZ, ofZ}
-use Rattle.integers.proofs.Order.{leZ-true, leZ-false}
-use Rattle.integers.proofs.Machine.{small-fits, reads-back, result-reads-back, natural-reads-back}
-use Rattle.thermometer.specs.Rule.{F, unitsAt}
-use Rattle.thermometer.proofs.Bounds.{t-fits}
-use Rattle.thermometer.proofs.Places.{place-in-range}
-use Rattle.thermometer.proofs.Answer.{AllReachedBefore, reached-before, answer-is}
+use Rattle.integers.proofs.Machine.{reads-back, result-reads-back}
+use Rattle.thermometer.specs.Rule.{InRange}
+use Rattle.thermometer.specs.Search.{Encloses}
+use Rattle.thermometer.proofs.Places.{place-inside}
+use Rattle.thermometer.proofs.Search.{nearby-in-range, ends-enclose}
 use Rattle.thermometer.proofs.greatest_units.Statement.{statement}
 use Rattle.thermometer.proofs.greatest_units.Tie as tie
 
-abbrev Inv-loop : tie.InvT-loop
-Inv-loop alpha delta beta m reached₀ past₀ reached past =
-    (reached < past) × (past ≤ 491521) × (F alpha delta beta (unitsAt reached) ≤ℤ toZ w64 m) × AllReachedBefore alpha delta beta (toZ w64 m) past
-
-abbrev μ-loop : tie.MeasureT-loop
-μ-loop alpha delta beta m reached₀ past₀ reached past = past - reached
-
-reads-m : (s : tie.Start Inv-loop μ-loop) → toZ w64 (ofZ w64 (s .args .m)) ≡ s .args .m
+reads-m : (s : tie.Start) → toZ w64 (ofZ w64 (s .args .m)) ≡ s .args .m
 reads-m s = reads-back (s .fits .m)
 
-abbrev middle : tie.At-loop Inv-loop μ-loop → ℕ
-middle c = c .loop .reached + (c .loop .past - c .loop .reached) / 2
+near-inside : (c : tie.After-nearby) → c .nearby .result ≤ 491520
+near-inside c =
+    let a = c .before .args in
+    place-inside (subst InRange (sym (rw (reads-m (c .before)) at (c .nearby .ensures))) (nearby-in-range (a .alpha) (a .delta) (a .beta) (a .m)))
 
-reads-ratio : (c : tie.After-ratio-at Inv-loop μ-loop)
-    → toZ w64 (ofZ w64 (c .ratio-at .result)) ≡ F (c .before .before .before .args .alpha) (c .before .before .before .args .delta) (c .before .before .before .args .beta) (unitsAt (middle (c .before .before)))
-reads-ratio c = result-reads-back (c .ratio-at .result) (c .ratio-at .ok) ∙ c .ratio-at .ensures
+enclosed : (c : tie.After-past-at) → let a = c .before .before .before .args in Encloses (a .alpha) (a .delta) (a .beta) (a .m) (c .before .reached-at .result) (c .past-at .result)
+enclosed c =
+    let n = c .before .before in
+    let s = n .before in
+    rw (rw (reads-m s) at (c .before .reached-at .ensures), rw (reads-m s) at (c .past-at .ensures))
+    (ends-enclose (s .pre .0) (s .args .m) (s .pre .1) (n .nearby .result) (near-inside n))
 
-loop-holds : tie.Need-loop-holds Inv-loop μ-loop
-loop-holds c = (omega arith, omega arith, rw (reads-m c) (c .pre .1), λ j h _. omega arith)
+nearby-requires : tie.Need-nearby-requires
+nearby-requires c κs = (c .pre .0, rw (reads-m c) (c .pre .1))
 
-sub-loop : tie.Need-sub-loop Inv-loop μ-loop
-sub-loop c = omega arith
+reached-at-requires : tie.Need-reached-at-requires
+reached-at-requires c κs = (c .before .pre .0, near-inside c)
 
-sub-middle : tie.Need-sub-middle Inv-loop μ-loop
-sub-middle c = omega arith
+past-at-requires : tie.Need-past-at-requires
+past-at-requires c κs = (c .before .before .pre .0, near-inside (c .before))
 
-add-middle : tie.Need-add-middle Inv-loop μ-loop
-add-middle c = omega arith
+greatest-between-requires : tie.Need-greatest-between-requires
+greatest-between-requires c κs = let s = c .before .before .before in (s .pre .0, rw (reads-m s) (enclosed c))
 
-ratio-at-requires : tie.Need-ratio-at-requires Inv-loop μ-loop
-ratio-at-requires c κs = (c .before .before .pre .0, omega arith)
-
-loop-less : tie.Need-loop-less Inv-loop μ-loop
-loop-less c = omega arith
-
-loop-again : tie.Need-loop-again Inv-loop μ-loop
-loop-again c =
-    let invariant = c .before .before .before .loop .inv in
-    (omega arith, invariant .1, leZ-true (rw (reads-ratio (c .before)) at (c .if1 .taken)), invariant .3)
-
-loop-less-2 : tie.Need-loop-less-2 Inv-loop μ-loop
-loop-less-2 c = omega arith
-
-loop-again-2 : tie.Need-loop-again-2 Inv-loop μ-loop
-loop-again-2 c =
-    let at = c .before .before .before in (
-      omega arith,
-      omega arith,
-      at .loop .inv .2,
-      reached-before (at .before .pre .0) (middle at) (omega arith) (leZ-false (rw (reads-ratio (c .before)) at (c .if1 .left))),
-    )
-
-reads-reached : (c : tie.After-loop Inv-loop μ-loop) → toZ w64 (c .before .loop .reached) ≡ pos (c .before .loop .reached)
-reads-reached c = natural-reads-back (c .before .loop .reached) (omega arith)
-
-cast-result : tie.Need-cast-result Inv-loop μ-loop
-cast-result c = small-fits (pos (c .before .loop .reached)) (omega arith)
-
-sub-result : tie.Need-sub-result Inv-loop μ-loop
-sub-result c = let inside : c .before .loop .reached ≤ 491520 = omega arith in rw (reads-reached c) (t-fits (place-in-range inside))
-
-returns : tie.Need-returns Inv-loop μ-loop
+returns : tie.Need-returns
 returns c =
-    let s = c .before .before in
-    let reached = c .before .loop .reached in
-    let inside : reached ≤ 491520 = omega arith in
-    rw (reads-reached c, reads-back (t-fits (place-in-range inside)))
-    (sym (answer-is (s .args .alpha) (s .args .delta) (s .args .beta) (s .args .m) inside
-    (rw (reads-m s) at (c .before .loop .inv .2))
-    (λ j h p. omega (arith, c .before .loop .inv .3 j h (rw (reads-m s) p)))))
+    result-reads-back (c .greatest-between .result) (c .greatest-between .ok)
+    ∙ rw (reads-m (c .before .before .before .before)) at (c .greatest-between .ensures)
 
 pub greatest-units-spec : {M : Type 1} → statement M
 greatest-units-spec =
     tie.close
-    (tie.spec
-    Inv-loop
-    μ-loop
-    loop-holds
-    sub-loop
-    sub-middle
-    add-middle
-    ratio-at-requires
-    loop-less
-    loop-again
-    loop-less-2
-    loop-again-2
-    cast-result
-    sub-result
-    returns)
+    (tie.spec nearby-requires reached-at-requires past-at-requires greatest-between-requires returns)
