@@ -72,7 +72,7 @@ fn on_chord(alpha: u32, delta: u32, beta: u32, m: i64, t: i64) -> i64
     held_between(-245_760, 245_760, u)
 }
 
-// A place near that of the answer, by one step of the secant method: F is nearly a line. It is never above 22,000,000.
+// A place near that of the answer, by one step of the secant method: F is nearly a line. No F is above 22,000,000.
 fn nearby(alpha: u32, delta: u32, beta: u32, m: i64) -> u64
     requires { ⌜ Admissible alpha delta beta × (F alpha delta beta lowest ≤ℤ m) ⌝ }
     ensures { λ k. ⌜ unitsAt k ≡ nearbyUnits alpha delta beta m ⌝ }
