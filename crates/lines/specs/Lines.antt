@@ -1,0 +1,65 @@
+-- Document 01, "Listing program": the lines as lists of bytes. For each record one line, `scan 7 delivered 2112 flags
+-- 0000000000000000000000` (number, delivered scenes, 22 flags) or `refused 6`; for a refused table only `refused` and its number.
+-- Each line ends in a line feed (decision 29).
+use Prim.Native.Char.{code}
+use Prim.Native.String as text
+use Prim.Native.Nat.{ℕ, _+_, _%_, _^_}
+use mathlib.Core.List.{List, [], _∷_, _++_}
+use lib.Dec.{leb}
+use lib.ListN.{getD, take, drop}
+use Rattle.io.specs.Digits.{digits}
+use Rattle.lists.specs.Build.{tabulate}
+use Rattle.lists.specs.Count.{count}
+use Rattle.fields.specs.Numbers.{u32At}
+use Rattle.fields.specs.Fields.{valueStart}
+use Rattle.table.specs.declared.Opening.{Opening}
+use Rattle.table.specs.declared.Opening.the-variants.{Accepted as TableAccepted, LengthWrong, FieldWrong, ValueOutside}
+use Rattle.table.specs.Opening.{refusal}
+use Rattle.table.specs.Settings.{channels}
+use Rattle.product.specs.Product.{productLayout}
+use Rattle.calibrator.specs.declared.Answer.{Answer}
+use Rattle.calibrator.specs.declared.Answer.the-variants.{Accepted, Refused}
+use Rattle.calibrator.specs.Refusals.{numberOf}
+
+-- the bytes of a text in ASCII: each character's number
+abbrev pub ascii : text.String → List ℕ
+ascii text.[] = []
+ascii (text._∷_ character more) = code character ∷ ascii more
+
+-- how many decimal digits n takes: one, and one more for each of the powers 10, 100, 1,000 and so on that is at most n
+unfoldable pub places : ℕ → ℕ
+places n = 1 + count (λ k. leb (10 ^ (k + 1)) n) n
+
+-- n's decimal digits, the most significant first
+unfoldable pub decimal : ℕ → List ℕ
+decimal n = digits 10 (places n) n
+
+unfoldable pub refusedLine : ℕ → List ℕ
+refusedLine number = ascii "refused " ++ decimal number ++ ascii "\n"
+
+-- The flags of a product are 0 to 4 (decision 18), which are their own digits. The line of any other bytes shows their last digits.
+unfoldable pub flagDigits : List ℕ → List ℕ
+flagDigits flags = tabulate (λ c. 48 + getD flags c 0 % 10) channels
+
+unfoldable pub scanLine : ℕ → ℕ → List ℕ → List ℕ
+scanLine number delivered flags =
+    ascii "scan " ++ decimal number ++ ascii " delivered " ++ decimal delivered ++ ascii " flags " ++ flagDigits flags ++ ascii "\n"
+
+-- of a product: the value of field 0x20 as a number, and the value of field 0x21
+abbrev pub numberIn : List ℕ → ℕ
+numberIn product = u32At product (valueStart productLayout 0)
+
+abbrev pub flagsIn : List ℕ → List ℕ
+flagsIn product = take channels (drop (valueStart productLayout 1) product)
+
+-- the line of a feed's answer and the product that it left
+unfoldable pub answerLine : Answer → List ℕ → List ℕ
+answerLine (Accepted delivered) product = scanLine (numberIn product) delivered (flagsIn product)
+answerLine (Refused refusal) product = refusedLine (numberOf refusal)
+
+-- the line of a table's opening; an accepted table has none
+unfoldable pub openingLine : Opening → List ℕ
+openingLine TableAccepted = []
+openingLine LengthWrong = refusedLine (refusal LengthWrong)
+openingLine FieldWrong = refusedLine (refusal FieldWrong)
+openingLine ValueOutside = refusedLine (refusal ValueOutside)

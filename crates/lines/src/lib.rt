@@ -1,0 +1,177 @@
+// Document 01, "Listing program": the lines, written into a lent buffer, and one step of the program.
+ghost use mathlib.Core.Path.{_≡_};
+ghost use mathlib.Core.List.{_++_};
+ghost use Prim.Native.Nat.{_+_, _≤_};
+ghost use lib.ListN.{length};
+ghost use Rattle.io.specs.Counts.{Counts};
+ghost use Rattle.lists.specs.Build.{put};
+ghost use Rattle.calibrator.specs.Feeding.{Sound, bufferOf};
+ghost use Rattle.lines.specs.Lines.{decimal, refusedLine, flagDigits, scanLine, answerLine, openingLine};
+ghost use Rattle.lines.specs.Steps.{listedLine, listedOf, calibratedLine, calibratedOf};
+use calibrator::Answer;
+use calibrator::Calibrator;
+use table::Opening;
+
+// The longest line: `scan `, ten digits, ` delivered `, ten digits, ` flags `, 22 digits and the line feed.
+pub const LONGEST: usize = 66;
+
+// The calibrator that is handed back, and how many bytes the line has.
+pub struct Listed {
+    pub calibrator: Calibrator,
+    pub size: usize,
+}
+
+// The calibrator that is handed back, and how many bytes go to standard output and to standard error.
+pub struct Calibrated {
+    pub calibrator: Calibrator,
+    pub output: usize,
+    pub errors: usize,
+}
+
+fn wide(n: u32) -> u64
+    ensures { λ r. ⌜ r ≡ n ⌝ }
+{
+    n as u64
+}
+
+// ---- parts of a line; each answers where the next one starts
+
+fn put_text(out: &mut [u8], at: usize, text: &[u8]) -> usize
+    requires { ⌜ at + length (now text) ≤ length (now out) ⌝ }
+    ensures { λ r. ⌜ (r ≡ at + length (now (text .entry))) × (now (out .exit) ≡ put (now (out .entry)) at (now (text .entry))) ⌝ }
+{
+    for i in 0..text.len() {
+        out[at + i] = text[i];
+    }
+    at + text.len()
+}
+
+fn put_decimal(out: &mut [u8], at: usize, n: u32) -> usize
+    requires { ⌜ at + 10 ≤ length (now out) ⌝ }
+    ensures { λ r. ⌜ (r ≤ at + 10) × (r ≡ at + length (decimal n)) × (now (out .exit) ≡ put (now (out .entry)) at (decimal n)) ⌝ }
+{
+    let mut text = [0u8; 20];
+    let k = io::decimal(wide(n), &mut text);
+    put_text(out, at, &text[..k])
+}
+
+// A label and behind it a number.
+fn put_labelled(out: &mut [u8], at: usize, label: &[u8], n: u32) -> usize
+    requires { ⌜ at + length (now label) + 10 ≤ length (now out) ⌝ }
+    ensures { λ r. ⌜ (r ≤ at + length (now (label .entry)) + 10) × (r ≡ at + length (now (label .entry) ++ decimal n)) × (now (out .exit) ≡ put (now (out .entry)) at (now (label .entry) ++ decimal n)) ⌝ }
+{
+    let next = put_text(out, at, label);
+    put_decimal(out, next, n)
+}
+
+fn flag_digits(flags: &[u8]) -> [u8; 22]
+    requires { ⌜ length (now flags) ≡ 22 ⌝ }
+    ensures { λ r. ⌜ r ≡ flagDigits (now (flags .entry)) ⌝ }
+{
+    let mut digits = [0u8; 22];
+    for c in 0..22usize {
+        digits[c] = 48 + flags[c] % 10;
+    }
+    digits
+}
+
+// ---- lines; each answers how many bytes it has
+
+pub fn refused_line(number: u8, out: &mut [u8; LONGEST]) -> usize
+    ensures { λ r. ⌜ Counts r (now (out .exit)) ⌝ }
+    ensures { λ r. ⌜ (r ≡ length (refusedLine number)) × (now (out .exit) ≡ put (now (out .entry)) 0 (refusedLine number)) ⌝ }
+{
+    let line: &mut [u8] = out;
+    let end = put_labelled(line, 0, b"refused ", number as u32);
+    put_text(line, end, b"\n")
+}
+
+fn scan_line(number: u32, delivered: u32, flags: &[u8], out: &mut [u8; LONGEST]) -> usize
+    requires { ⌜ length (now flags) ≡ 22 ⌝ }
+    ensures { λ r. ⌜ Counts r (now (out .exit)) ⌝ }
+    ensures { λ r. ⌜ (r ≡ length (scanLine number delivered (now (flags .entry)))) × (now (out .exit) ≡ put (now (out .entry)) 0 (scanLine number delivered (now (flags .entry)))) ⌝ }
+{
+    let digits = flag_digits(flags);
+    let line: &mut [u8] = out;
+    let numbered = put_labelled(line, 0, b"scan ", number);
+    let counted = put_labelled(line, numbered, b" delivered ", delivered);
+    let named = put_text(line, counted, b" flags ");
+    let flagged = put_text(line, named, &digits);
+    put_text(line, flagged, b"\n")
+}
+
+// The line of a feed's answer; of an accepted one, `product` is what it left.
+pub fn answer_line(answer: Answer, product: &[u8; 8706], out: &mut [u8; LONGEST]) -> usize
+    ensures { λ r. ⌜ Counts r (now (out .exit)) ⌝ }
+    ensures { λ r. ⌜ (r ≡ length (answerLine answer (now (product .entry)))) × (now (out .exit) ≡ put (now (out .entry)) 0 (answerLine answer (now (product .entry)))) ⌝ }
+{
+    match answer {
+        Answer::Accepted(delivered) => {
+            let whole: &[u8] = product;
+            let number = fields::u32_at(whole, 3);
+            scan_line(number, delivered, &whole[10..32], out)
+        }
+        Answer::Refused(_) => refused_line(calibrator::answer_number(answer), out),
+    }
+}
+
+// The line of a table's opening; an accepted table has none.
+pub fn opening_line(opening: Opening, out: &mut [u8; LONGEST]) -> usize
+    ensures { λ r. ⌜ Counts r (now (out .exit)) ⌝ }
+    ensures { λ r. ⌜ (r ≡ length (openingLine opening)) × (now (out .exit) ≡ put (now (out .entry)) 0 (openingLine opening)) ⌝ }
+{
+    match opening {
+        Opening::Accepted => 0,
+        Opening::LengthWrong => refused_line(1, out),
+        Opening::FieldWrong => refused_line(2, out),
+        Opening::ValueOutside => refused_line(3, out),
+    }
+}
+
+// ---- one step of each program
+
+// Feeds a record and writes its line.
+pub fn list_record(calibrator: Calibrator, scan: &[u8], out: &mut [u8; LONGEST]) -> Listed
+    requires { ⌜ Sound calibrator ⌝ }
+    ensures { λ r. ⌜ Counts (r .size) (now (out .exit)) ⌝ }
+    ensures { λ r. ⌜ (r ≡ listedOf calibrator (now (scan .entry))) × (now (out .exit) ≡ put (now (out .entry)) 0 (listedLine calibrator (now (scan .entry)))) × Sound (r .calibrator) ⌝ }
+{
+    let mut product = [0u8; 8706];
+    let fed = calibrator.feed(scan, &mut product);
+    let answer = fed.answer;
+    let next = fed.calibrator;
+    let size = answer_line(answer, &product, out);
+    Listed {
+        calibrator: next,
+        size,
+    }
+}
+
+// Feeds a record: the product of an accepted one, or the line of a refused one.
+pub fn calibrate_record(
+    calibrator: Calibrator,
+    scan: &[u8],
+    product: &mut [u8; 8706],
+    line: &mut [u8; LONGEST],
+) -> Calibrated
+    requires { ⌜ Sound calibrator ⌝ }
+    ensures { λ r. ⌜ Counts (r .output) (now (product .exit)) ⌝ }
+    ensures { λ r. ⌜ Counts (r .errors) (now (line .exit)) ⌝ }
+    ensures { λ r. ⌜ (r ≡ calibratedOf calibrator (now (scan .entry))) × (now (product .exit) ≡ bufferOf calibrator (now (scan .entry)) (now (product .entry))) × (now (line .exit) ≡ put (now (line .entry)) 0 (calibratedLine calibrator (now (scan .entry)))) × Sound (r .calibrator) ⌝ }
+{
+    let fed = calibrator.feed(scan, product);
+    let answer = fed.answer;
+    let next = fed.calibrator;
+    match answer {
+        Answer::Accepted(_) => Calibrated {
+            calibrator: next,
+            output: 8706,
+            errors: 0,
+        },
+        Answer::Refused(_) => Calibrated {
+            calibrator: next,
+            output: 0,
+            errors: refused_line(calibrator::answer_number(answer), line),
+        },
+    }
+}
