@@ -11,6 +11,7 @@ use Rattle.fields.specs.Fields.{fieldIsRight, layoutOf, layoutIsRight}
 use Rattle.fields.proofs.LayoutLaws.{first-when-right}
 use Rattle.table.specs.declared.Opening.{Opening}
 use Rattle.table.specs.declared.Opening.the-variants.{Accepted, LengthWrong, FieldWrong, ValueOutside}
+use Rattle.table.specs.declared.Opened.{Opened}
 use Rattle.table.specs.Settings.{tableLayout, settingsOf}
 use Rattle.table.specs.Ranges.{valuesInside, SettingsRange}
 use Rattle.table.specs.Opening.{ages, refusal, opening, AcceptedTable, openedAs, opened, noTable}
@@ -78,11 +79,13 @@ bytes-of-accepted : (bytes : List ℕ) → openedAs Accepted bytes .table .bytes
 unfolding openedAs
 bytes-of-accepted bytes = refl
 
--- an accepted answer stands beside a table with the bytes that were opened
-pub opened-accepted : (bytes : List ℕ) → opened bytes .answer ≡ Accepted → AcceptedTable bytes × (opened bytes .table .bytes ≡ bytes)
-opened-accepted bytes answered =
-    let accepted : opening bytes ≡ Accepted = sym (answer-of-opened (opening bytes) bytes) ∙ answered in
-    (record { accepted = accepted }, ap (λ (o : Opening). openedAs o bytes .table .bytes) accepted ∙ bytes-of-accepted bytes)
+-- the table beside an accepted answer is an accepted one, which `fresh` asks
+pub accepted-when-opened : (bytes : List ℕ) {o : Opened} → o ≡ opened bytes → o .answer ≡ Accepted → AcceptedTable (o .table .bytes)
+accepted-when-opened bytes opens answered =
+    let accepted : opening bytes ≡ Accepted =
+    sym (answer-of-opened (opening bytes) bytes) ∙ sym (ap (λ (o : Opened). o .answer) opens) ∙ answered in
+    let same = ap (λ (o : Opened). o .table .bytes) opens ∙ ap (λ (o : Opening). openedAs o bytes .table .bytes) accepted ∙ bytes-of-accepted bytes in
+    record { accepted = ap opening same ∙ accepted }
 
 -- ---- a table begins with its first tag, so that bytes of 0 are none
 

@@ -1,14 +1,14 @@
--- `listing::run` meets its contract. Each turn hands back a sound calibrator, and the number of turns falls. Assumes nothing.
+-- `each_record` meets its contract. Each turn hands back a sound calibrator, and the number of turns falls.
 use borrow.Author.Needs.{needs}
 use Rattle.calibrator.specs.Feeding.{Sound}
-use Rattle.listing.proofs.run.Statement.{statement}
-use Rattle.listing.proofs.run.Tie as tie
+use Rattle.programs.proofs.each_record.Statement.{statement}
+use Rattle.programs.proofs.each_record.Tie as tie
 
 abbrev Inv-loop : tie.InvT-loop
-Inv-loop state₀ turns₀ state turns = Sound state
+Inv-loop program state₀ turns₀ state turns = Sound state
 
 abbrev μ-loop : tie.MeasureT-loop
-μ-loop state₀ turns₀ state turns = turns
+μ-loop program state₀ turns₀ state turns = turns
 
 loop-holds : tie.Need-loop-holds Inv-loop μ-loop
 loop-holds c = search needs
@@ -31,8 +31,8 @@ returns c = search needs
 returns-2 : tie.Need-returns-2 Inv-loop μ-loop
 returns-2 c = search needs
 
-pub run-spec : {M : Type 1} → statement M
-run-spec =
+pub each-record-spec : {M : Type 1} → statement M
+each-record-spec =
     tie.close
     (tie.spec
     Inv-loop

@@ -1,0 +1,137 @@
+// What the programs `listing` and `calibrate` do: both read table.bin and records from standard input, feed each record and write what
+// the crate `lines` makes of it. Nothing can be stated of what a call of C reads or writes, so nothing but these calls is done here.
+use calibrator::Calibrator;
+use libc::STDERR_FILENO;
+use libc::STDIN_FILENO;
+use libc::STDOUT_FILENO;
+use table::Opening;
+ghost use Rattle.calibrator.specs.Feeding.{Sound};
+ghost use Rattle.io.specs.Counts.{Counts};
+
+pub enum Program {
+    // Document 01, "Listing program".
+    Listing,
+    // Products to standard output, refusals to standard error (decision 34).
+    Calibrate,
+}
+
+// Whether there may be another record, and the calibrator that is handed back.
+struct Turned {
+    more: bool,
+    calibrator: Calibrator,
+}
+
+// Prints the line of a record.
+fn list(calibrator: Calibrator, scan: &[u8]) -> Turned
+    requires { ⌜ Sound calibrator ⌝ }
+    ensures { λ t. ⌜ Sound (t .calibrator) ⌝ }
+{
+    let mut line = [0u8; lines::LONGEST];
+    let listed = lines::list_record(calibrator, scan, &mut line);
+    let size = listed.size;
+    let next = listed.calibrator;
+    Turned {
+        more: io::write_all(STDOUT_FILENO, &line[..size]),
+        calibrator: next,
+    }
+}
+
+// Writes the product of a record, or its refusal. Of the two one is empty, and `write_all` makes no call for it.
+fn calibrate(calibrator: Calibrator, scan: &[u8]) -> Turned
+    requires { ⌜ Sound calibrator ⌝ }
+    ensures { λ t. ⌜ Sound (t .calibrator) ⌝ }
+{
+    let mut product = [0u8; 8706];
+    let mut line = [0u8; lines::LONGEST];
+    let calibrated = lines::calibrate_record(calibrator, scan, &mut product, &mut line);
+    let output = calibrated.output;
+    let errors = calibrated.errors;
+    let next = calibrated.calibrator;
+    if !io::write_all(STDOUT_FILENO, &product[..output]) {
+        return Turned {
+            more: false,
+            calibrator: next,
+        };
+    }
+    Turned {
+        more: io::write_all(STDERR_FILENO, &line[..errors]),
+        calibrator: next,
+    }
+}
+
+// Reads a record, which may be short at the end of the input, and deals with it.
+fn turn(program: Program, calibrator: Calibrator) -> Turned
+    requires { ⌜ Sound calibrator ⌝ }
+    ensures { λ t. ⌜ Sound (t .calibrator) ⌝ }
+{
+    let mut scan = [0u8; 4629];
+    let n = io::read_full(STDIN_FILENO, &mut scan);
+    if n == 0 {
+        return Turned {
+            more: false,
+            calibrator,
+        };
+    }
+    match program {
+        Program::Listing => list(calibrator, &scan[..n]),
+        Program::Calibrate => calibrate(calibrator, &scan[..n]),
+    }
+}
+
+// A proved loop has to end: it counts its turns down from a number that no stream of records uses up.
+fn each_record(program: Program, calibrator: Calibrator)
+    requires { ⌜ Sound calibrator ⌝ }
+{
+    let mut state = calibrator;
+    let mut turns = u64::MAX;
+    while turns > 0 {
+        let t = turn(program, state);
+        state = t.calibrator;
+        if !t.more {
+            break;
+        }
+        turns -= 1;
+    }
+}
+
+// Where the line of a refused table goes.
+fn refusals_to(program: Program) -> i32 {
+    match program {
+        Program::Listing => STDOUT_FILENO,
+        Program::Calibrate => STDERR_FILENO,
+    }
+}
+
+// A refused table gives its line alone, and no record is read.
+fn with_table(program: Program, bytes: &[u8]) {
+    let opened = table::open(bytes);
+    let answer = opened.answer;
+    let table = opened.table;
+    if let Opening::Accepted = answer {
+        each_record(program, Calibrator::fresh(table));
+        return;
+    }
+    let mut line = [0u8; lines::LONGEST];
+    let size = lines::opening_line(answer, &mut line);
+    io::write_all(refusals_to(program), &line[..size]);
+}
+
+// Reads table.bin of the working directory and answers how many bytes it has, a longer one than a table counting as 742. One that
+// cannot be opened or read counts as empty.
+fn read_table(bytes: &mut [u8; 742]) -> usize
+    ensures { λ r. ⌜ Counts r (now (bytes .exit)) ⌝ }
+{
+    let file = os::open_read(b"table.bin");
+    if file < 0 {
+        return 0;
+    }
+    let n = io::read_full(file, bytes);
+    libc::close(file);
+    n
+}
+
+pub fn run(program: Program) {
+    let mut bytes = [0u8; 742];
+    let n = read_table(&mut bytes);
+    with_table(program, &bytes[..n]);
+}
