@@ -6,13 +6,16 @@ use std::io::Write;
 use std::path::Path;
 use std::process::{Command, Stdio};
 use std::ptr::{null, null_mut};
+use std::sync::atomic::{AtomicU64, Ordering};
 
 use crate::against;
+use crate::baseline::Constants;
 use crate::check::lists::Outcome;
 use crate::generator::lists::FeedList;
 use crate::generator::random::case_seed;
 use crate::generator::tables::TableValues;
 use crate::generator::thermometers::ThermometerInput;
+use crate::product::LENGTH;
 use crate::station::LaidOut;
 
 extern "C" {
@@ -37,6 +40,19 @@ extern "C" {
         scan: *const u8,
         scan_length: usize,
         k: usize,
+    ) -> u32;
+    fn compared_product(
+        buffer: *mut u8,
+        buffer_length: usize,
+        number: u32,
+        tc: i64,
+        rise: i64,
+        tnl: i64,
+        d: i64,
+        slope: i64,
+        base: i64,
+        earth: *const u8,
+        earth_length: usize,
     ) -> u32;
 }
 
@@ -172,6 +188,37 @@ fn kept(table: &[u8], scan: &[u8]) -> Vec<u32> {
         .collect()
 }
 
+/// Whether constants are as a channel with flag 0 under an accepted table has them.
+fn in_range(k: &Constants) -> bool {
+    (11_166..=43_934).contains(&k.tc)
+        && (825_032..=1_357_512).contains(&k.rise)
+        && (-8_192..=8_192).contains(&k.tnl)
+        && (1..=51_136_960_500).contains(&k.d)
+        && (0..=780_300).contains(&k.slope)
+        && (0..=51_136_960_500).contains(&k.base)
+}
+
+/// Writes a product whose channels all have flag 0 and these constants: the count of delivered scenes.
+pub fn product(buffer: &mut [u8], number: u32, k: &Constants, earth: &[u8]) -> u32 {
+    assert!(buffer.len() >= LENGTH && earth.len() == 4_224 && in_range(k));
+    let (start, length) = (buffer.as_mut_ptr(), buffer.len());
+    unsafe {
+        compared_product(
+            start,
+            length,
+            number,
+            k.tc,
+            k.rise,
+            k.tnl,
+            k.d,
+            k.slope,
+            k.base,
+            earth.as_ptr(),
+            earth.len(),
+        )
+    }
+}
+
 /// Feeds a list to a fresh calibrator in one call: 0, or the number of the table's refusal.
 pub fn feed_all(list: &mut LaidOut) -> u8 {
     unsafe {
@@ -238,8 +285,12 @@ fn null_pointers(_: u64) -> Result<(), String> {
     ))
 }
 
+/// How many feeds of lists have been compared in this run.
+static COMPARED_FEEDS: AtomicU64 = AtomicU64::new(0);
+
 /// What each feed of a list left.
 fn feeds(list: &FeedList) -> Vec<Outcome> {
+    COMPARED_FEEDS.fetch_add(list.feeds.len() as u64, Ordering::Relaxed);
     let mut laid_out = LaidOut::of(list);
     assert_eq!(feed_all(&mut laid_out), 0, "a list has an accepted table");
     let mut rest = &laid_out.buffers[..];
@@ -289,10 +340,14 @@ fn listing(table: Option<&[u8]>, input: &[u8]) -> String {
     String::from_utf8(lines).expect("lines of text")
 }
 
+fn calibrate(table: Option<&[u8]>, input: &[u8]) -> (Vec<u8>, String) {
+    run_program("calibrate", table, input)
+}
+
 type Comparison = fn(u64) -> Result<(), String>;
 
 /// The comparisons by the name that `--case` takes, and how many cases of each are run for a thousand.
-pub const KINDS: [(&str, Comparison, u64); 13] = [
+pub const KINDS: [(&str, Comparison, u64); 14] = [
     ("floor_div", |seed| against::divisions(seed, floor_div), 10),
     ("round", |seed| against::roundings(seed, round), 10),
     ("numbers", |seed| against::numbers(seed, numbers), 200),
@@ -322,6 +377,11 @@ pub const KINDS: [(&str, Comparison, u64); 13] = [
     ),
     ("null_pointers", null_pointers, 1),
     ("listing", |seed| against::listings(seed, listing), 30),
+    (
+        "calibrate",
+        |seed| against::calibrations(seed, calibrate),
+        30,
+    ),
 ];
 
 /// Runs every comparison; the first difference is the error, with the command that repeats it.
@@ -340,6 +400,12 @@ pub fn run(seed: u64, thousands: u64) -> Result<(), String> {
             run_case(kind, comparison, seed)?;
         }
         println!("proved {kind}: {cases} cases agree");
+    }
+    let feeds = COMPARED_FEEDS.load(Ordering::Relaxed);
+    println!("feeds compared in lists: {feeds}");
+    // In the gate, ten thousand, at least 20,000 feeds are to be compared.
+    if feeds < 2_000 * thousands {
+        return Err("too few feeds were compared".to_string());
     }
     Ok(())
 }

@@ -11,29 +11,32 @@ use compare::generator::tables::TableValues;
 use compare::generator::thermometers::{thermometer_input, ThermometerInput};
 use compare::product::LENGTH;
 use compare::proved;
-use compare::station::LaidOut;
+use compare::station::{self, LaidOut};
 
-/// The least time of several rounds, in nanoseconds a call. The two take turns in each round.
-fn least_times(
-    rounds: usize,
-    calls: usize,
-    mut first: impl FnMut(),
-    mut second: impl FnMut(),
-) -> (f64, f64) {
-    let mut least = (f64::MAX, f64::MAX);
+/// The least time of several rounds for each of these, in nanoseconds a call. They take turns in each
+/// round.
+fn least_times(rounds: usize, calls: usize, timed: &mut [&mut dyn FnMut()]) -> Vec<f64> {
+    let mut least = vec![f64::MAX; timed.len()];
     for _ in 0..rounds {
-        let began = Instant::now();
-        first();
-        least.0 = least
-            .0
-            .min(began.elapsed().as_nanos() as f64 / calls as f64);
-        let began = Instant::now();
-        second();
-        least.1 = least
-            .1
-            .min(began.elapsed().as_nanos() as f64 / calls as f64);
+        for (least, call) in least.iter_mut().zip(timed.iter_mut()) {
+            let began = Instant::now();
+            call();
+            *least = least.min(began.elapsed().as_nanos() as f64 / calls as f64);
+        }
     }
     least
+}
+
+/// Times of the proved code, of the same by hand and, where it was timed, of the second implementation.
+fn report(what: &str, unit: &str, unit_nanoseconds: f64, times: &[f64]) {
+    let names = ["proved", "by hand", "second implementation"];
+    let shown: Vec<String> = names
+        .iter()
+        .zip(times)
+        .map(|(name, time)| format!("{name} {:.2} {unit}", time / unit_nanoseconds))
+        .collect();
+    let ratio = times[0] / times[1];
+    println!("{what}: {}; ratio {ratio:.2}", shown.join(", "));
 }
 
 fn baseline_thermometer(i: &ThermometerInput) -> Result<i32, u8> {
@@ -55,24 +58,67 @@ fn thermometers() {
         .filter(|input| baseline_thermometer(input).is_ok())
         .take(2_000)
         .collect();
-    let (proved_time, baseline_time) = least_times(
+    let times = least_times(
         300,
         inputs.len(),
-        || {
-            for input in &inputs {
-                let _ = black_box(proved::thermometer(black_box(input)));
-            }
-        },
-        || {
-            for input in &inputs {
-                let _ = black_box(baseline_thermometer(black_box(input)));
-            }
-        },
+        &mut [
+            &mut || {
+                for input in &inputs {
+                    let _ = black_box(proved::thermometer(black_box(input)));
+                }
+            },
+            &mut || {
+                for input in &inputs {
+                    let _ = black_box(baseline_thermometer(black_box(input)));
+                }
+            },
+        ],
     );
-    let ratio = proved_time / baseline_time;
-    println!(
-        "one thermometer: proved {proved_time:.0} ns, by hand {baseline_time:.0} ns, ratio {ratio:.2}"
+    report("one thermometer", "ns", 1.0, &times);
+}
+
+/// The channel of a full window of bench scans with weights 8 to 1.
+const CONSTANTS: baseline::Constants = baseline::Constants {
+    tc: 11_166,
+    rise: 1_107_656,
+    tnl: 400,
+    d: 155_520_000,
+    slope: 15_552,
+    base: 155_520_000,
+};
+
+/// The writer of a product alone: every channel has flag 0, and every scene is delivered.
+fn products() {
+    let mut random = Random::new(2);
+    let counts = (0..2_112).map(|_| random.between(10_000, 20_000) as u16);
+    let earth: Vec<u8> = counts.flat_map(u16::to_be_bytes).collect();
+    let (mut first, mut second) = (vec![0; LENGTH], vec![0; LENGTH]);
+    let constants = [CONSTANTS; 22];
+    let times = least_times(
+        20_000,
+        1,
+        &mut [
+            &mut || {
+                black_box(proved::product(
+                    &mut first,
+                    7,
+                    black_box(&CONSTANTS),
+                    black_box(&earth),
+                ));
+            },
+            &mut || {
+                black_box(baseline::write_product(
+                    &mut second,
+                    7,
+                    &[0; 22],
+                    black_box(&constants),
+                    black_box(&earth),
+                ));
+            },
+        ],
     );
+    assert!(first == second, "both writers give the same product");
+    report("one product", "us", 1_000.0, &times);
 }
 
 /// Consecutive bench scans with earth counts at random between the cold and the warm counts, under the
@@ -119,30 +165,40 @@ fn baseline_feeds(list: &LaidOut, buffers: &mut [u8]) {
     }
 }
 
+/// Whole lists. The second implementation computes each product from all records since the first, so
+/// it is timed on short lists alone, in a tenth of the rounds.
 fn feeds(count: usize, rounds: usize) {
     let mut list = LaidOut::of(&scans(count));
-    let by_hand = LaidOut::of(&scans(count));
-    let mut buffers = by_hand.buffers.clone();
-    let (proved_time, baseline_time) = least_times(
+    let by_hand = list.clone();
+    let mut second = list.clone();
+    let mut buffers = list.buffers.clone();
+    let mut times = least_times(
         rounds,
         count,
-        || assert_eq!(black_box(proved::feed_all(&mut list)), 0),
-        || baseline_feeds(black_box(&by_hand), &mut buffers),
+        &mut [
+            &mut || assert_eq!(black_box(proved::feed_all(&mut list)), 0),
+            &mut || baseline_feeds(black_box(&by_hand), &mut buffers),
+        ],
     );
     assert!(list.answers.iter().all(|answer| *answer == 0));
     assert!(
         list.buffers == buffers,
         "both calibrators give the same products"
     );
-    let (proved_time, baseline_time) = (proved_time / 1_000.0, baseline_time / 1_000.0);
-    let ratio = proved_time / baseline_time;
-    println!(
-        "one scan of {count}: proved {proved_time:.2} us, by hand {baseline_time:.2} us, ratio {ratio:.2}"
-    );
+    if count <= 1_000 {
+        times.extend(least_times(
+            rounds.div_ceil(10),
+            count,
+            &mut [&mut || assert_eq!(black_box(station::feed_all(&mut second)), 0)],
+        ));
+        assert!(second == list, "so does the second implementation");
+    }
+    report(&format!("one scan of {count}"), "us", 1_000.0, &times);
 }
 
 fn main() {
     thermometers();
+    products();
     feeds(100, 300);
     feeds(1_000, 30);
     feeds(10_000, 5);
