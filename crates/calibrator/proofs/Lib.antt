@@ -8,4 +8,6 @@ pub mod HistoryLaws
 pub mod RestartLaws
 pub mod Demand
 pub mod FeedListLaws
+pub mod BenchScan
+pub mod BenchFeed
 pub mod BenchRows

@@ -1,40 +1,130 @@
--- Document 01, "Bench scan": the rows H1 to H12, about the definitions of this project.
-use Prim.Native.Nat.{ℕ}
+-- Document 01, "Bench scan": the bench table and the bench scan as bytes, and the rows H1 to H12.
+use Prim.Native.Nat.{ℕ, _-_, _<_}
 use mathlib.Core.Path.{_≡_}
-use mathlib.Core.List.{List, [], _∷_}
+use mathlib.Core.List.{List, [], _∷_, _++_}
 use mathlib.Core.Bool.{true, false}
-use lib.IntN.{ℤ, pos, _-ℤ_}
+use lib.IntN.{ℤ, pos}
+use lib.ListN.{replicate}
+use Rattle.lists.specs.Build.{cells}
 use Rattle.thermometer.specs.Rule.{F, answer}
 use Rattle.table.specs.declared.Limits.{Limits}
-use Rattle.table.specs.Settings.{Channel}
+use Rattle.table.specs.Settings.{Settings, settingsOf, thermometers, channels}
+use Rattle.table.specs.Opening.{ages}
 use Rattle.acceptance.specs.Good.{good, atLeast}
 use Rattle.acceptance.specs.Counts.{Sides, withinLimits, goodCounts, acceptedSides}
 use Rattle.acceptance.specs.Kept.{scanValue}
-use Rattle.window.specs.declared.Means.{Means}
-use Rattle.window.specs.Means.{Tw, Tc, D}
-use Rattle.scene.specs.Temperature.{N, outside, temperature}
+use Rattle.window.specs.declared.Channel.{Channel}
+use Rattle.scene.specs.Temperature.{outside}
+use Rattle.product.specs.Product.{u16Bytes, u32Bytes, fieldBytes}
+use Rattle.calibrator.specs.declared.Calibrator.{Calibrator}
+use Rattle.calibrator.specs.Feeding.{freshOf}
+use Rattle.calibrator.specs.Promise.{dAt, nAt, tAt}
+
+-- ---- the bench table
+
+-- w0 = v0 = 1, others 0
+abbrev pub weights : List ℕ
+weights = 1 ∷ replicate 7 0
+
+unfoldable pub settingsBytes : List ℕ
+settingsBytes =
+    -- w and v
+    weights ++ weights
+    -- least percentages for thermometers, warm and cold
+    ++ (100 ∷ 100 ∷ 100 ∷ [])
+    -- least good thermometers for KAV and WG
+    ++ (5 ∷ 4 ∷ [])
+    -- R_PAM
+    ++ u32Bytes 2000000
+    -- T_low and T_upp at their ends, in two's complement
+    ++ u32Bytes (0x1_0000_0000 - 245760)
+    ++ u32Bytes 245760
+    -- dT
+    ++ u32Bytes 100
+
+-- p; R0, alpha, delta, beta
+unfoldable pub thermometerBytes : List ℕ
+thermometerBytes = (1 ∷ []) ++ u32Bytes 2000000 ++ u32Bytes 3850000 ++ u32Bytes 1500000 ++ u32Bytes 0
+
+-- low, upp, difference
+abbrev pub limitsBytes : List ℕ
+limitsBytes = u16Bytes 0 ++ u16Bytes 65535 ++ u16Bytes 50
+
+-- warm, cold; b, rj, sl, TNL
+unfoldable pub channelBytes : List ℕ
+channelBytes = limitsBytes ++ limitsBytes ++ u16Bytes 0 ++ u16Bytes 0 ++ u16Bytes 0 ++ u16Bytes 400
+
+unfoldable pub benchTable : List ℕ
+unfolding settingsBytes thermometerBytes channelBytes cells
+benchTable =
+    fieldBytes 0x10 37 settingsBytes
+    ++ (fieldBytes 0x11 255 (cells (λ i. thermometerBytes) thermometers)
+    ++ fieldBytes 0x12 440 (cells (λ c. channelBytes) channels))
+
+-- ---- the bench scan
+
+-- n counts a channel, all the same
+unfoldable pub perChannel : ℕ → ℕ → List ℕ
+unfolding cells
+perChannel n count = cells (λ c. cells (λ i. u16Bytes count) n) channels
+
+-- PAM, offset, thermometers
+unfoldable pub instrumentBytes : List ℕ
+unfolding cells
+instrumentBytes = u16Bytes 20000 ++ u16Bytes 0 ++ cells (λ i. u16Bytes 20000) thermometers
+
+-- scan 7 with warm, cold and earth counts; document 01's earth count is 15,000
+unfoldable pub benchScan : ℕ → List ℕ
+unfolding instrumentBytes perChannel
+benchScan earth =
+    fieldBytes 0x01 4 (u32Bytes 7)
+    ++ (fieldBytes 0x02 34 instrumentBytes
+    ++ (fieldBytes 0x03 176 (perChannel 4 20000)
+    ++ (fieldBytes 0x04 176 (perChannel 4 10000)
+    ++ fieldBytes 0x05 4224 (perChannel 96 earth))))
+
+-- the calibrator that is fresh under the bench table
+abbrev pub benchCalibrator : Calibrator
+benchCalibrator = freshOf (record { bytes = benchTable })
+
+abbrev pub benchSettings : Settings
+benchSettings = settingsOf ages benchTable
+
+-- each of its channels once it is fed the bench scan: flag 0; Tc, Tw - Tc with Tw = 1,118,822, TNL, D, 12 × Wc × Ww and Ac × Ww
+abbrev pub benchChannel : Channel
+benchChannel = record {
+  flag = 0;
+  constants = record { tc = pos 11166; rise = pos 1107656; tnl = pos 400; d = pos 120000; slope = pos 12; base = pos 120000 };
+}
+
+-- ---- the rows
 
 -- alpha 3,850,000, delta 1,500,000, beta 0
 abbrev pub ratioAt : ℤ → ℤ
 ratioAt t = F 3850000 1500000 0 t
 
--- limits 0 and 65,535, differences 50, b = rj = sl = 0, TNL 400
+-- scene i of channel c, in the bench scan with this earth count
+module _ (earth c i : ℕ) where
+  abbrev pub benchD : ℤ
+  benchD = dAt benchSettings (benchScan earth ∷ []) (benchScan earth) c i
+
+  abbrev pub benchN : ℤ
+  benchN = nAt benchSettings (benchScan earth ∷ []) (benchScan earth) c i
+
+  abbrev pub benchT : ℤ
+  benchT = tAt benchSettings (benchScan earth ∷ []) (benchScan earth) c i
+
+-- every scene of the bench scan with this earth count is outside
+abbrev pub AllOutside : ℕ → Type 0
+AllOutside earth = (c i : ℕ) → c < channels → i < 96 → outside (benchN earth c i) (benchD earth c i) ≡ true
+
+-- none is outside, and each has this T
+abbrev pub AllAt : ℕ → ℕ → Type 0
+AllAt earth t = (c i : ℕ) → c < channels → i < 96 → (outside (benchN earth c i) (benchD earth c i) ≡ false) × (benchT earth c i ≡ pos t)
+
+-- limits 0 and 65,535, differences 50
 abbrev pub limits : Limits
 limits = record { low = 0; upp = 65535; difference = 50 }
-
-abbrev pub channel : Channel
-channel = record { warm = limits; cold = limits; b = pos 0; rj = 0; sl = 0; tnl = pos 400 }
-
--- scan 7 alone, with weight 1: a is 240,000 for warm counts of 20,000 and 120,000 for cold counts of 10,000; eight thermometers with
--- p = 1 at T = 1,118,822
-abbrev pub means : Means
-means = record { weights = 8; weighted = 8950576; ww = 1; aw = 240000; wc = 1; ac = 120000 }
-
-abbrev pub nOf : ℕ → ℤ
-nOf count = N (pos 1) (pos 1) (pos 120000) (pos count)
-
-abbrev pub tOf : ℕ → ℤ
-tOf count = temperature (Tc channel) (Tw means channel -ℤ Tc channel) (channel .tnl) (D means) (nOf count)
 
 abbrev pub four : ℕ → ℕ → ℕ → ℕ → List ℕ
 four a b c d = a ∷ b ∷ c ∷ d ∷ []
@@ -47,17 +137,12 @@ pub record Rows : Type 0 where
   pub H2 : ratioAt (pos 4096) ≡ pos 16842767
   -- M = 16,842,766 gives t = 4,095
   pub H3 : answer 3850000 1500000 0 (pos 16842766) ≡ pos 4095
-  pub H4 : tOf 15000 ≡ pos 565394
-  pub H5 : tOf 10000 ≡ pos 11166
-  pub H6 : outside (nOf 9999) (D means) ≡ true
-  pub H7 : tOf 22500 ≡ pos 1395236
-  pub H8 : outside (nOf 22501) (D means) ≡ true
-  pub H9 : tOf 10001 ≡ pos 11277
-  -- the scenes of H4, H5, H7 and H9 are not outside
-  pub H4-inside : outside (nOf 15000) (D means) ≡ false
-  pub H5-inside : outside (nOf 10000) (D means) ≡ false
-  pub H7-inside : outside (nOf 22500) (D means) ≡ false
-  pub H9-inside : outside (nOf 10001) (D means) ≡ false
+  pub H4 : AllAt 15000 565394
+  pub H5 : AllAt 10000 11166
+  pub H6 : AllOutside 9999
+  pub H7 : AllAt 22500 1395236
+  pub H8 : AllOutside 22501
+  pub H9 : AllAt 10001 11277
   -- warm 20,000 three times and 20,100: fourth bad, a = 240,000
   pub H10-fourth : good (four 20000 20000 20000 20100) (withinLimits limits (four 20000 20000 20000 20100)) 50 3 ≡ false
   pub H10-value : scanValue (accepted (four 20000 20000 20000 20100) (four 10000 10000 10000 10000) .warm) ≡ 240000

@@ -48,3 +48,8 @@ unfolding tabulate
 tabulate-same f g zero same = refl
 tabulate-same {A} f g (suc n) same =
     ap₂ (λ (l : List A) (x : A). l ++ (x ∷ [])) (tabulate-same f g n (λ i below. same i (omega arith))) (same n (le-refl (suc n)))
+
+-- two rules with the same list agree at each of its places
+pub each-of-same : {A : Type 0} (f g : ℕ → A) (n : ℕ) → tabulate f n ≡ tabulate g n → (i : ℕ) → i < n → f i ≡ g i
+each-of-same {A} f g n same i below =
+    sym (getD-tabulate f n i (g i) below) ∙ ap (λ (l : List A). getD l i (g i)) same ∙ getD-tabulate g n i (g i) below

@@ -42,12 +42,12 @@ stands-behind front l v n at long stands = record {
 }
 
 -- a part of what stands
-stands-inside : (l v w : List ℕ) (at k : ℕ) → k + length w ≤ length v → StandsAt l at v → StandsAt v k w → StandsAt l (at + k) w
+pub stands-inside : (l v w : List ℕ) (at k : ℕ) → k + length w ≤ length v → StandsAt l at v → StandsAt v k w → StandsAt l (at + k) w
 stands-inside l v w at k fits outer inner = record {
   each = λ i inside. ap (λ n. getD l n 0) (add-assoc at k i) ∙ outer .each (k + i) (omega arith) ∙ inner .each i inside;
 }
 
-cell-stands : (f : ℕ → List ℕ) (k : ℕ) → ((i : ℕ) → length (f i) ≡ k) → (n i : ℕ) → i < n → StandsAt (cells f n) (k * i) (f i)
+pub cell-stands : (f : ℕ → List ℕ) (k : ℕ) → ((i : ℕ) → length (f i) ≡ k) → (n i : ℕ) → i < n → StandsAt (cells f n) (k * i) (f i)
 cell-stands f k long n i below = record {
   each = λ j inside.
       let short : j < k = omega (arith, long i) in
@@ -66,7 +66,7 @@ u32-of-bytes : (n : ℕ) → u32At (u32Bytes n) 0 ≡ n
 u32-of-bytes n = omega arith
 
 module _ (l : List ℕ) (at : ℕ) where
-  u16-that-stands : (n : ℕ) → StandsAt l at (u16Bytes n) → u16At l at ≡ n
+  pub u16-that-stands : (n : ℕ) → StandsAt l at (u16Bytes n) → u16At l at ≡ n
   u16-that-stands n stands =
       u16-same l (u16Bytes n) at 0 (λ j inside. stands .each j inside ∙ ap (λ k. getD (u16Bytes n) k 0) (sym (zero-add j))) ∙ u16-of-bytes n
 

@@ -1,0 +1,129 @@
+-- What the bench table says, and what the bench scan gives under it: accepted samples, sums and earth counts.
+use Prim.Native.Nat.{ℕ, _+_, _*_, _<_}
+use native.Mathlib.Omega.{arith}
+use mathlib.Core.Path.{_≡_, refl, ap, ap₂, _∙_}
+use mathlib.Core.List.{List, [], _∷_, _++_}
+use mathlib.Core.Bool.{Bool, true, cond}
+use lib.Dec.{eqb}
+use lib.IntN.{pos}
+use lib.ListN.{length, replicate}
+use Rattle.lists.specs.Build.{tabulate, cells}
+use Rattle.lists.specs.Count.{count, every}
+use Rattle.lists.specs.Sum.{sum}
+use Rattle.lists.proofs.Tabulate.{tabulate-same, each-of-same}
+use Rattle.lists.proofs.Cells.{length-cells}
+use Rattle.fields.specs.Numbers.{u16At}
+use Rattle.fields.specs.Fields.{fieldIsRight, layoutIsRight}
+use Rattle.fields.proofs.NumberLaws.{u16-of-drop}
+use Rattle.thermometer.specs.declared.Reading.{Reading}
+use Rattle.thermometer.specs.declared.Reading.the-variants.{Units}
+use Rattle.thermometer.specs.Reading.{reading}
+use Rattle.thermometer.proofs.Bench.{bench-reading}
+use Rattle.table.specs.declared.Target.{Target}
+use Rattle.table.specs.declared.Target.the-variants.{Kav, Wg}
+use Rattle.table.specs.Settings.{Channel as ChannelRow, leastOf, thermometers, channels}
+use Rattle.table.specs.Ranges.{firstOf, sizeOf, targetOf, leastsInside, thermometerLimitsInside, channelInside, sumsInside, valuesInside}
+use Rattle.table.specs.Opening.{opening, AcceptedTable}
+use Rattle.acceptance.specs.declared.Scan.{Scan}
+use Rattle.acceptance.specs.Record.{instrument}
+use Rattle.acceptance.specs.Accepted.{readingAt, kelvin, inLimits, kelvins, passedLimits, acceptedThermometers, acceptedCounts, acceptedSamples}
+use Rattle.acceptance.specs.Kept.{keptKelvin, keptScan}
+use Rattle.acceptance.specs.Good.{Sample, differs, good, chosenTo, goodSamples, atLeast}
+use Rattle.acceptance.specs.Counts.{fourCounts, withinLimits, withoutOverlap, acceptedSides}
+use Rattle.acceptance.proofs.Targets.{last-at-most}
+use Rattle.window.specs.declared.Means.{Means}
+use Rattle.window.specs.Ages.{noScan}
+use Rattle.window.specs.Sums.{weightSum, valueSum, thermometerWeights, thermometerSum}
+use Rattle.window.specs.Means.{meansFrom, meansOf}
+use Rattle.product.specs.Scenes.{earthPart}
+use Rattle.product.specs.Product.{u16Bytes}
+use Rattle.product.proofs.Bytes.{stands-inside, cell-stands, u16-that-stands}
+use Rattle.calibrator.specs.Feeding.{earthCounts, keptBy}
+use Rattle.calibrator.specs.Roll.{scanOfAge, meansAt}
+use Rattle.calibrator.specs.Bench.{benchTable, perChannel, benchScan, benchSettings, limits}
+
+-- ---- the table
+
+pub bench-table : AcceptedTable benchTable
+unfolding opening benchTable layoutIsRight fieldIsRight valuesInside leastsInside thermometerLimitsInside channelInside sumsInside every sum
+bench-table = record { accepted = refl }
+
+-- what it says of each channel
+abbrev pub benchRow : ChannelRow
+benchRow = record { warm = limits; cold = limits; b = pos 0; rj = 0; sl = 0; tnl = pos 400 }
+
+pub bench-channel : (c : ℕ) → c < channels → benchSettings .channel c ≡ benchRow
+unfolding benchTable tabulate
+bench-channel = each-of-same (λ c. benchSettings .channel c) (λ c. benchRow) channels refl
+
+-- ---- the scan
+
+-- of a side one more than its scan value (decision 23); T of 0 °C
+abbrev pub benchKept : Scan
+benchKept = record { warm = replicate 22 240001; cold = replicate 22 120001; kelvin = replicate 15 1118822 }
+
+-- eight or seven thermometers with p = 1; one scan with weight 1
+abbrev pub benchMeans : Target → Means
+benchMeans target = record { weights = sizeOf target; weighted = sizeOf target * 1118822; ww = 1; aw = 240000; wc = 1; ac = 120000 }
+
+module _ (earth : ℕ) where
+  -- ---- what it keeps
+
+  each-reads-zero : (i : ℕ) → i < thermometers → readingAt benchSettings (instrument (benchScan earth)) i ≡ Units (pos 0)
+  unfolding benchTable benchScan tabulate
+  each-reads-zero i below =
+      each-of-same (readingAt benchSettings (instrument (benchScan earth))) (λ i. reading 2000000 2000000 3850000 1500000 0 20000 0 20000)
+      thermometers refl i below
+      ∙ bench-reading
+
+  -- the row of a target, of anything that a reading gives
+  row-of-target : {A : Type 0} (f : Reading → A) (target : Target)
+      → tabulate (λ i. f (readingAt benchSettings (instrument (benchScan earth)) (firstOf target + i))) (sizeOf target)
+      ≡ tabulate (λ i. f (Units (pos 0))) (sizeOf target)
+  row-of-target f target = tabulate-same _ _ (sizeOf target) (λ i inside. ap f (each-reads-zero (firstOf target + i) (omega (arith, last-at-most target))))
+
+  accepted-of-target : (target : Target) → acceptedThermometers benchSettings (instrument (benchScan earth)) target
+      ≡ atLeast (leastOf benchSettings target)
+      (goodSamples (tabulate (λ i. 1118822) (sizeOf target)) (tabulate (λ i. true) (sizeOf target)) (benchSettings .dT))
+  unfolding acceptedThermometers kelvins passedLimits benchTable
+  accepted-of-target target =
+      ap₂ (λ (values : List ℕ) (passed : List Bool). atLeast (leastOf benchSettings target) (goodSamples values passed (benchSettings .dT)))
+      (row-of-target kelvin target) (row-of-target (inLimits benchSettings) target)
+
+  pub bench-kept : keptBy benchSettings (benchScan earth) ≡ benchKept
+  unfolding benchTable benchScan keptScan acceptedSamples tabulate acceptedCounts fourCounts withinLimits acceptedSides withoutOverlap good differs count chosenTo
+  bench-kept =
+      ap₂ (λ (kav wg : List Sample). record {
+        warm = replicate 22 240001;
+        cold = replicate 22 120001;
+        kelvin = tabulate (λ i. keptKelvin kav i) 8 ++ tabulate (λ i. keptKelvin wg i) 7;
+      }) (accepted-of-target Kav) (accepted-of-target Wg)
+
+  -- ---- the sums of each channel
+
+  means-of-kept : (c : ℕ) → c < channels → meansOf benchSettings (λ k. cond (eqb (7 + k) 7) benchKept noScan) c ≡ benchMeans (targetOf c)
+  unfolding benchTable tabulate meansFrom weightSum valueSum thermometerWeights thermometerSum sum noScan
+  means-of-kept = each-of-same _ (λ c. benchMeans (targetOf c)) channels refl
+
+  pub bench-means : (c : ℕ) → c < channels → meansAt benchSettings (benchScan earth ∷ []) c ≡ benchMeans (targetOf c)
+  unfolding scanOfAge benchScan
+  bench-means c below =
+      ap (λ (kept : Scan). meansOf benchSettings (λ k. cond (eqb (7 + k) 7) kept noScan) c) bench-kept ∙ means-of-kept c below
+
+  -- ---- the earth counts
+
+  earth-field : earthCounts (benchScan earth) ≡ perChannel 96 earth
+  unfolding benchScan
+  earth-field = refl
+
+  pub earth-count : (c i : ℕ) → c < channels → i < 96 → u16At (earthPart (earthCounts (benchScan earth)) c) (2 * i) ≡ earth
+  unfolding perChannel
+  earth-count c i below inside =
+      let row : List ℕ = cells (λ i. u16Bytes earth) 96 in
+      let long-row : length row ≡ 192 = length-cells (λ i. u16Bytes earth) 2 (λ i. refl) 96 in
+      ap (λ (l : List ℕ). u16At (earthPart l c) (2 * i)) earth-field
+      ∙ u16-of-drop (perChannel 96 earth) (192 * c) (2 * i)
+      ∙ u16-that-stands (perChannel 96 earth) (192 * c + 2 * i) earth
+      (stands-inside (perChannel 96 earth) row (u16Bytes earth) (192 * c) (2 * i) (omega arith)
+      (cell-stands (λ c. row) 192 (λ c. long-row) channels c below)
+      (cell-stands (λ i. u16Bytes earth) 2 (λ i. refl) 96 i inside))
