@@ -1,6 +1,6 @@
 -- One step of each program: from the calibrator and a record to the calibrator that is handed back and the bytes that are written.
 -- The listing program prints the line of the feed's answer. The program `calibrate` writes the product of an accepted feed to standard
--- output and the line of a refused one to standard error (decision 34).
+-- output and the line of a refused one to standard error (decision 35).
 use Prim.Native.Nat.{ℕ}
 use mathlib.Core.List.{List, []}
 use lib.ListN.{length, replicate}

@@ -161,15 +161,15 @@ pub fn calibrate_record(
 {
     let fed = calibrator.feed(scan, product);
     let answer = fed.answer;
-    let next = fed.calibrator;
+    let after = fed.calibrator;
     match answer {
         Answer::Accepted(_) => Calibrated {
-            calibrator: next,
+            calibrator: after,
             output: 8706,
             errors: 0,
         },
         Answer::Refused(_) => Calibrated {
-            calibrator: next,
+            calibrator: after,
             output: 0,
             errors: refused_line(calibrator::answer_number(answer), line),
         },

@@ -11,7 +11,7 @@ ghost use Rattle.io.specs.Counts.{Counts};
 pub enum Program {
     // Document 01, "Listing program".
     Listing,
-    // Products to standard output, refusals to standard error (decision 34).
+    // Products to standard output, refusals to standard error (decision 35).
     Calibrate,
 }
 
