@@ -32,7 +32,7 @@ use Rattle.calibrator.specs.Feeding.{earthCounts, freshOf, settings, nex
 use Rattle.calibrator.specs.Bench.{benchTable, benchScan, benchCalibrator, benchSettings, benchChannel}
 use Rattle.calibrator.proofs.Verdicts.{verdict-passes}
 use Rattle.calibrator.proofs.FedLaws.{fed-when-passed, buffer-when-passed}
-use Rattle.calibrator.proofs.BenchScan.{benchKept, bench-kept, earth-count}
+use Rattle.calibrator.proofs.BenchScan.{bench-kept, earth-count}
 
 module _ (earth : ℕ) where
   -- ---- no refusal

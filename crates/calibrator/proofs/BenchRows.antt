@@ -1,11 +1,10 @@
 -- The rows of document 01's bench scan: N, D and T of its scenes, from what the bench table and the bench scan give; closed numbers
 -- compute.
-use Prim.Native.Nat.{ℕ, _*_, _<_}
+use Prim.Native.Nat.{ℕ, _<_}
 use mathlib.Core.Path.{_≡_, refl, ap, ap₂, _∙_}
 use mathlib.Core.Bool.{true, false}
 use lib.IntN.{ℤ, pos, _-ℤ_}
 use Rattle.integers.specs.Rounding.{floor, r}
-use Rattle.fields.specs.Numbers.{u16At}
 use Rattle.thermometer.proofs.Bench as T
 use Rattle.table.specs.declared.Target.{Target}
 use Rattle.table.specs.declared.Target.the-variants.{Kav, Wg}
@@ -15,10 +14,8 @@ use Rattle.acceptance.proofs.Bench as A
 use Rattle.window.specs.declared.Means.{Means}
 use Rattle.window.specs.Means.{Tw, Tc, D}
 use Rattle.scene.specs.Temperature.{N, outside, temperature}
-use Rattle.product.specs.Scenes.{earthPart}
-use Rattle.calibrator.specs.Feeding.{earthCounts}
-use Rattle.calibrator.specs.Bench.{benchScan, benchD, benchN, benchT, AllOutside, AllAt, Rows}
-use Rattle.calibrator.proofs.BenchScan.{benchRow, benchMeans, bench-channel, bench-means, earth-count}
+use Rattle.calibrator.specs.Bench.{benchD, benchN, benchT, AllOutside, AllAt, Rows}
+use Rattle.calibrator.proofs.BenchScan.{benchRow, benchMeans, bench-row, bench-means, earth-count}
 
 -- N of a count, and T of an N
 abbrev nOf : ℕ → ℤ
@@ -45,7 +42,7 @@ module _ (earth c i : ℕ) (below : c < channels) (inside : i < 96) where
   t-is : benchT earth c i ≡ tOf (nOf earth)
   t-is =
       ap₂ (λ (m : Means) (channel : Channel). temperature (Tc channel) (Tw m channel -ℤ Tc channel) (channel .tnl) (D m) (benchN earth c i))
-      (bench-means earth c below) (bench-channel c below)
+      (bench-means earth c below) (bench-row c below)
       ∙ ap₂ (λ (rise n : ℤ). temperature (pos 11166) rise (pos 400) (pos 120000) n) (rise-of-target (targetOf c)) n-is
 
 all-outside : (earth : ℕ) → outside (nOf earth) (pos 120000) ≡ true → AllOutside earth

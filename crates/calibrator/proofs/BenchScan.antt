@@ -52,9 +52,9 @@ bench-table = record { accepted = refl }
 abbrev pub benchRow : ChannelRow
 benchRow = record { warm = limits; cold = limits; b = pos 0; rj = 0; sl = 0; tnl = pos 400 }
 
-pub bench-channel : (c : ℕ) → c < channels → benchSettings .channel c ≡ benchRow
+pub bench-row : (c : ℕ) → c < channels → benchSettings .channel c ≡ benchRow
 unfolding benchTable tabulate
-bench-channel = each-of-same (λ c. benchSettings .channel c) (λ c. benchRow) channels refl
+bench-row = each-of-same (λ c. benchSettings .channel c) (λ c. benchRow) channels refl
 
 -- ---- the scan
 
@@ -65,6 +65,10 @@ benchKept = record { warm = replicate 22 240001; cold = replicate 22 120001; kel
 -- eight or seven thermometers with p = 1; one scan with weight 1
 abbrev pub benchMeans : Target → Means
 benchMeans target = record { weights = sizeOf target; weighted = sizeOf target * 1118822; ww = 1; aw = 240000; wc = 1; ac = 120000 }
+
+means-of-kept : (c : ℕ) → c < channels → meansOf benchSettings (λ k. cond (eqb (7 + k) 7) benchKept noScan) c ≡ benchMeans (targetOf c)
+unfolding benchTable tabulate meansFrom weightSum valueSum thermometerWeights thermometerSum sum noScan
+means-of-kept = each-of-same _ (λ c. benchMeans (targetOf c)) channels refl
 
 module _ (earth : ℕ) where
   -- ---- what it keeps
@@ -100,10 +104,6 @@ module _ (earth : ℕ) where
       }) (accepted-of-target Kav) (accepted-of-target Wg)
 
   -- ---- the sums of each channel
-
-  means-of-kept : (c : ℕ) → c < channels → meansOf benchSettings (λ k. cond (eqb (7 + k) 7) benchKept noScan) c ≡ benchMeans (targetOf c)
-  unfolding benchTable tabulate meansFrom weightSum valueSum thermometerWeights thermometerSum sum noScan
-  means-of-kept = each-of-same _ (λ c. benchMeans (targetOf c)) channels refl
 
   pub bench-means : (c : ℕ) → c < channels → meansAt benchSettings (benchScan earth ∷ []) c ≡ benchMeans (targetOf c)
   unfolding scanOfAge benchScan

@@ -5,8 +5,11 @@ use libc::STDERR_FILENO;
 use libc::STDIN_FILENO;
 use libc::STDOUT_FILENO;
 use table::Opening;
+ghost use mathlib.Core.Path.{_≡_};
 ghost use Rattle.calibrator.specs.Feeding.{Sound};
 ghost use Rattle.io.specs.Counts.{Counts};
+ghost use Rattle.lines.specs.Steps.{listedOf, calibratedOf};
+ghost use Rattle.programs.specs.Streams.{refusalsTo};
 
 pub enum Program {
     // Document 01, "Listing program".
@@ -24,6 +27,7 @@ struct Turned {
 // Prints the line of a record.
 fn list(calibrator: Calibrator, scan: &[u8]) -> Turned
     requires { ⌜ Sound calibrator ⌝ }
+    ensures { λ t. ⌜ t .calibrator ≡ listedOf calibrator (now (scan .entry)) .calibrator ⌝ }
     ensures { λ t. ⌜ Sound (t .calibrator) ⌝ }
 {
     let mut line = [0u8; lines::LONGEST];
@@ -39,6 +43,7 @@ fn list(calibrator: Calibrator, scan: &[u8]) -> Turned
 // Writes the product of a record, or its refusal. Of the two one is empty, and `write_all` makes no call for it.
 fn calibrate(calibrator: Calibrator, scan: &[u8]) -> Turned
     requires { ⌜ Sound calibrator ⌝ }
+    ensures { λ t. ⌜ t .calibrator ≡ calibratedOf calibrator (now (scan .entry)) .calibrator ⌝ }
     ensures { λ t. ⌜ Sound (t .calibrator) ⌝ }
 {
     let mut product = [0u8; 8706];
@@ -95,7 +100,9 @@ fn each_record(program: Program, calibrator: Calibrator)
 }
 
 // Where the line of a refused table goes.
-fn refusals_to(program: Program) -> i32 {
+fn refusals_to(program: Program) -> i32
+    ensures { λ fd. ⌜ fd ≡ refusalsTo program ⌝ }
+{
     match program {
         Program::Listing => STDOUT_FILENO,
         Program::Calibrate => STDERR_FILENO,
