@@ -1,6 +1,6 @@
 -- A product depends on the window's records alone: the roll of these records keeps the same scans by age, and feeding them again, in
 -- order, is accepted.
-use Prim.Native.Nat.{ℕ, _+_, _-_, _<_, _≤_}
+use Prim.Native.Nat.{ℕ, _+_, _<_, _≤_}
 use native.Mathlib.Omega.{arith}
 use mathlib.Core.Path.{_≡_, refl, sym, ap, _∙_}
 use mathlib.Core.List.{List, [], _∷_, _++_}

@@ -51,6 +51,9 @@ bounded-not-negative {x} {m} h k = record {
 pub bounded-by-itself : {x : ℤ} → pos 0 ≤ℤ x → Bounded x x
 bounded-by-itself h = bounded-not-negative h (≤ℤ-refl _)
 
+pub number-bounded : (n : ℕ) → Bounded (pos n) (pos n)
+number-bounded n = bounded-by-itself (natural-not-negative n)
+
 pub bounded-cancel : {k x m : ℤ} → pos 0 <ℤ k → Bounded (k *ℤ x) (k *ℤ m) → Bounded x m
 bounded-cancel {k} {x} {m} p h = record {
   low = (le-by (k ∷ x ∷ m ∷ []) ((# 0 :< v0) ∷ (opp (v0 :* v2) :≤ v0 :* v1) ∷ []) (opp v2) v1 (hyp 0 ⊕ hyp 1 ⊕ hyp 2 ⊕ hyp 0 ⊗ hyp 1) tt p (h .low));

@@ -2,10 +2,10 @@
 -- a / b stays between whole numbers that a / b is between.
 use mathlib.Core.Path.{_≡_, sym}
 use mathlib.Core.List.{[], _∷_}
-use lib.IntN.{ℤ, pos, _+ℤ_, _-ℤ_, _*ℤ_}
+use lib.IntN.{ℤ, pos, negℤ, _+ℤ_, _-ℤ_, _*ℤ_}
 use lib.Signed.{_≤ℤ_, _<ℤ_}
 use Rattle.integers.specs.Rounding.{floor, r}
-use Rattle.integers.specs.Bounds.{WithinHalf}
+use Rattle.integers.specs.Bounds.{Bounded, WithinHalf}
 use Rattle.integers.proofs.Ring.{_:+_, _:-_, _:*_, opp, #, v0, v1, v2, v3, v4, v5}
 use Rattle.integers.proofs.Certificate.{_:≤_, _:<_, hyp, nat, _⊕_, _⊗_, le-by, lt-by}
 use Rattle.integers.proofs.Floor.{floor-low, floor-high, floor-unique}
@@ -95,3 +95,10 @@ module _ {a b q : ℤ} (p : pos 0 <ℤ b) (h : WithinHalf a b q) where
 
   pub within-half-at-least : (m : ℤ) → (m *ℤ b) ≤ℤ a → m ≤ℤ q
   within-half-at-least m k = (le-by (a ∷ b ∷ q ∷ m ∷ []) ((# 0 :< v1) ∷ (opp v1 :≤ # 2 :* (v1 :* v2 :- v0)) ∷ (v3 :* v1 :≤ v0) ∷ []) v3 v2 (nat 2 ⊗ hyp 0 ⊕ hyp 1 ⊕ hyp 2 ⊕ nat 2 ⊗ hyp 3 ⊕ nat 2 ⊗ hyp 0 ⊗ hyp 1) tt p (h .twice .low) k)
+
+-- r(a, b) stays between whole numbers that a / b is between
+pub r-bounded : (a : ℤ) {b m : ℤ} → pos 0 <ℤ b → Bounded a (m *ℤ b) → Bounded (r a b) m
+r-bounded a {b} {m} p h = record {
+  low = within-half-at-least p (r-within-half a p) (negℤ m) (le-by (a ∷ b ∷ m ∷ []) ((opp (v2 :* v1) :≤ v0) ∷ []) (opp v2 :* v1) v0 (hyp 0 ⊕ hyp 1) tt (h .low));
+  high = within-half-at-most p (r-within-half a p) m (h .high);
+}

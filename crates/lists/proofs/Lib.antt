@@ -1,3 +1,4 @@
+pub mod Elements
 pub mod Tabulate
 pub mod Put
 pub mod Cells

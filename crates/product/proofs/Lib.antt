@@ -1,4 +1,4 @@
-pub mod Elements
+pub mod PastSummaries
 pub mod Lengths
 pub mod SceneLaws
 pub mod Plain

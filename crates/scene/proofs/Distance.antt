@@ -11,12 +11,11 @@ use Rattle.integers.proofs.Ring.{_:+_, _:-_, _:*_, opp, ring, #, v0, v1, v2, v3
 use Rattle.integers.proofs.Order.{below-at-most, product-not-negative}
 use Rattle.integers.proofs.Naturals.{natural-not-negative}
 use Rattle.integers.proofs.Certificate.{_:≤_, _:<_, hyp, nat, sqr, _⊕_, _⊗_, le-by}
-use Rattle.integers.proofs.Bounds.{bounded-sum, bounded-product, bounded-equal, bounded-cancel, bounded-not-negative, bounded-by-itself}
+use Rattle.integers.proofs.Bounds.{bounded-sum, bounded-product, bounded-equal, bounded-cancel, bounded-not-negative, bounded-by-itself, number-bounded}
 use Rattle.integers.proofs.Nearest.{r-within-half, within-half-at-most}
 use Rattle.integers.proofs.Fractions.{product-above, distance-same, distance-weaker}
 use Rattle.scene.specs.Temperature.{X, temperature}
 use Rattle.scene.specs.Unrounded.{unroundedTw, E, quadratic}
-use Rattle.scene.proofs.Ranges.{number-bounded}
 use Rattle.scene.proofs.Formal.{Formal, _/ᵉ_, wholeᵉ, _+ᵉ_, _-ᵉ_, _*ᵉ_, same-fraction}
 
 -- the three roundings of a scene: x is X, T is tc + linear + bend

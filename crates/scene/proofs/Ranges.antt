@@ -3,30 +3,24 @@
 -- the greatest unsigned one 2^27 N, below 2^63, so each fits.
 use mathlib.Core.List.{[], _∷_}
 use Prim.Native.Nat.{ℕ, _≤_}
-use lib.IntN.{ℤ, pos, negℤ, _+ℤ_, _-ℤ_, _*ℤ_}
-use lib.Signed.{_≤ℤ_, _<ℤ_, ltZ-yes}
+use lib.Dec.{lit<}
+use lib.IntN.{ℤ, pos, _+ℤ_, _-ℤ_, _*ℤ_}
+use lib.Signed.{_≤ℤ_, ltZ-yes}
+use mir.Syntax.{w64}
+use mir.Val.{SFits}
 use Rattle.integers.specs.Rounding.{floor, r}
 use Rattle.integers.specs.Bounds.{Bounded}
 use Rattle.integers.proofs.Ring.{_:+_, _:-_, _:*_, opp, #, v0, v1, v2}
 use Rattle.integers.proofs.Certificate.{_:≤_, _:<_, hyp, nat, _⊕_, _⊗_, le-by}
-use Rattle.integers.proofs.Bounds.{bounded-sum, bounded-difference, bounded-product, bounded-not-negative, bounded-by-itself, natural-bounded}
+use Rattle.integers.proofs.Bounds.{bounded-sum, bounded-difference, bounded-product, bounded-not-negative, natural-bounded, number-bounded}
+use Rattle.integers.proofs.Machine.{bounded-fits}
 use Rattle.integers.proofs.Order.{below-at-most, product-not-negative}
 use Rattle.integers.proofs.Naturals.{natural-not-negative}
 use Rattle.integers.proofs.Floor.{floor-bounded}
-use Rattle.integers.proofs.Nearest.{r-within-half, within-half-at-most, within-half-at-least}
+use Rattle.integers.proofs.Nearest.{r-bounded}
 use Rattle.scene.specs.declared.Constants.{Constants}
 use Rattle.scene.specs.Temperature.{X, temperature}
 use Rattle.scene.specs.Scene.{ConstantsRange, numerator}
-
--- r(a, b) stays between whole numbers that a / b is between
-pub r-bounded : (a : ℤ) {b m : ℤ} → pos 0 <ℤ b → Bounded a (m *ℤ b) → Bounded (r a b) m
-r-bounded a {b} {m} p h = record {
-  low = within-half-at-least p (r-within-half a p) (negℤ m) (le-by (a ∷ b ∷ m ∷ []) ((opp (v2 :* v1) :≤ v0) ∷ []) (opp v2 :* v1) v0 (hyp 0 ⊕ hyp 1) tt (h .low));
-  high = within-half-at-most p (r-within-half a p) m (h .high);
-}
-
-pub number-bounded : (n : ℕ) → Bounded (pos n) (pos n)
-number-bounded n = bounded-by-itself (natural-not-negative n)
 
 -- ---- the bend
 module _ {x tnl : ℤ} (h : Bounded x (pos 81920)) (k : Bounded tnl (pos 8192)) where
@@ -66,6 +60,9 @@ module _ {k : Constants} (h : ConstantsRange k) where
   pub d-bounded : Bounded (k .d) (pos 51136960500)
   d-bounded = bounded-not-negative (below-at-most (h .d-low)) (h .d-high)
 
+  pub d-fits : SFits w64 (k .d)
+  d-fits = bounded-fits d-bounded (lit< tt)
+
   pub slope-bounded : Bounded (k .slope) (pos 780300)
   slope-bounded = bounded-not-negative (h .slope-low) (h .slope-high)
 
@@ -96,6 +93,9 @@ module _ {k : Constants} (h : ConstantsRange k) where
   module _ {n : ℤ} (low : pos 0 ≤ℤ n) (high : (pos 4 *ℤ n) ≤ℤ (pos 5 *ℤ k .d)) where
     pub n-bounded : Bounded n (pos 63921200625)
     n-bounded = bounded-not-negative low (le-by (n ∷ (k .d) ∷ []) ((# 4 :* v0 :≤ # 5 :* v1) ∷ (v1 :≤ # 51136960500) ∷ []) v0 (# 63921200625) (nat 4 ⊗ hyp 0 ⊕ hyp 1 ⊕ nat 5 ⊗ hyp 2) tt high (h .d-high))
+
+    pub n-fits : SFits w64 n
+    n-fits = bounded-fits n-bounded (lit< tt)
 
     -- N / D in 2^27ths, cut off
     pub parts-bounded : Bounded (floor (pos 134217728 *ℤ n) (k .d)) (pos 167772160)

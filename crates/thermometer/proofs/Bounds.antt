@@ -7,8 +7,7 @@ use mir.Syntax.{w64}
 use mir.Val.{SFits}
 use Rattle.integers.specs.Rounding.{floor}
 use Rattle.integers.specs.Bounds.{Bounded}
-use Rattle.integers.proofs.Bounds.{bounded-sum, bounded-difference, bounded-product, bounded-weaker, bounded-by-itself, natural-bounded}
-use Rattle.integers.proofs.Naturals.{natural-not-negative}
+use Rattle.integers.proofs.Bounds.{bounded-sum, bounded-difference, bounded-product, bounded-weaker, natural-bounded, number-bounded}
 use Rattle.integers.proofs.Machine.{bounded-fits}
 use Rattle.integers.proofs.Floor.{floor-bounded}
 use Rattle.thermometer.specs.Rule.{one, q, s1, y, w, h, s2, F, InRange}
@@ -17,9 +16,6 @@ use Rattle.thermometer.specs.Reading.{Admissible}
 -- what F multiplies by alpha
 abbrev pub bracket : (delta beta : ℕ) → ℤ → ℤ
 bracket delta beta t = pos 256 *ℤ t -ℤ s1 delta t -ℤ s2 beta t
-
-pub number-bounded : (n : ℕ) → Bounded (pos n) (pos n)
-number-bounded n = bounded-by-itself (natural-not-negative n)
 
 -- a floor is at most n where n times the divisor is at least the bound of what is divided
 floor-at-most : (n : ℕ) (a b : ℤ) {m : ℤ} → T (ltZ (pos 0) b) → T (leZ m (pos n *ℤ b)) → Bounded a m → Bounded (floor a b) (pos n)

@@ -18,12 +18,12 @@ use Rattle.integers.proofs.Linear.{order, sum-parts}
 use Rattle.integers.proofs.Naturals.{natural-not-negative}
 use Rattle.integers.proofs.Order.{at-most-trans, leZ-true, ltZ-true, ltZ-false}
 use Rattle.integers.proofs.Certificate.{_:≤_, _:<_, hyp, _⊕_, _⊗_, le-by, lt-by}
-use Rattle.integers.proofs.Bounds.{bounded-sum, bounded-difference, bounded-product, bounded-weaker}
+use Rattle.integers.proofs.Bounds.{bounded-sum, bounded-difference, bounded-product, bounded-weaker, number-bounded}
 use Rattle.integers.proofs.Floor.{floor-bounded}
 use Rattle.thermometer.specs.Rule.{one, F, lowest, highest, unitsAt, InRange}
 use Rattle.thermometer.specs.Reading.{Admissible}
 use Rattle.thermometer.specs.Search.{heldBetween, onLine, onChord, nearbyUnits, reachedAt, pastAt, AllReachedBefore, Encloses}
-use Rattle.thermometer.proofs.Bounds.{number-bounded, fits, t-bounded, F-bounded}
+use Rattle.thermometer.proofs.Bounds.{fits, t-bounded, F-bounded}
 use Rattle.thermometer.proofs.Rises.{rises-strictly}
 use Rattle.thermometer.proofs.Answer.{reached-before}
 

@@ -9,7 +9,8 @@ use Rattle.lists.proofs.Sum.{sum-none, sum-more}
 use Rattle.product.specs.declared.Summary.{Summary}
 use Rattle.product.specs.Scenes.{noChannel}
 use Rattle.product.specs.Summary.{summaryOf}
-use Rattle.product.proofs.Elements.{pastSummaries, any-default}
+use Rattle.lists.proofs.Elements.{any-default}
+use Rattle.product.proofs.PastSummaries.{pastSummaries}
 use borrow.Author.Needs.{needs}
 use Rattle.product.proofs.total_count.Statement.{statement}
 use Rattle.product.proofs.total_count.Tie as tie

@@ -12,7 +12,8 @@ use Rattle.product.specs.Scenes.{noChannel}
 use Rattle.product.specs.Summary.{summaryOf}
 use Rattle.product.specs.Product.{summaryBytes, summariesBytes}
 use Rattle.product.specs.Steps.{Plain}
-use Rattle.product.proofs.Elements.{pastSummaries, any-default}
+use Rattle.lists.proofs.Elements.{any-default}
+use Rattle.product.proofs.PastSummaries.{pastSummaries}
 use Rattle.product.proofs.Lengths.{length-summary-bytes}
 use borrow.Author.Needs.{needs}
 use Rattle.product.proofs.write_summaries.Statement.{statement}

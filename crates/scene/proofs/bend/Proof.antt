@@ -11,10 +11,10 @@ use mir.Val.{SFits}
 use Rattle.integers.specs.Rounding.{r}
 use Rattle.integers.specs.Bounds.{Bounded}
 use Rattle.integers.proofs.Ring.{_:+_, _:-_, ring, v0, v1}
-use Rattle.integers.proofs.Bounds.{bounded-sum, bounded-size}
+use Rattle.integers.proofs.Bounds.{bounded-sum, bounded-size, number-bounded}
 use Rattle.integers.proofs.Machine.{bounded-fits, reads-back, natural-reads-back, unsigned-fits}
 use Rattle.integers.proofs.Nearest.{r-shifted}
-use Rattle.scene.proofs.Ranges.{number-bounded, four-x-bounded, rest-of-x-bounded, x-product-bounded, x-tnl-bounded, raised-not-negative, raised-bounded, bend-bounded}
+use Rattle.scene.proofs.Ranges.{four-x-bounded, rest-of-x-bounded, x-product-bounded, x-tnl-bounded, raised-not-negative, raised-bounded, bend-bounded}
 use Rattle.scene.proofs.bend.Statement.{statement}
 use Rattle.scene.proofs.bend.Tie as tie
 

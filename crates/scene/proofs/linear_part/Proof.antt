@@ -20,19 +20,13 @@ use Rattle.integers.proofs.Machine.{bounded-fits, reads-back, result-reads-back
 use Rattle.integers.proofs.Nearest.{r-from-floor, r-to-next}
 use Rattle.scene.specs.declared.Constants.{Constants}
 use Rattle.scene.specs.Scene.{ConstantsRange}
-use Rattle.scene.proofs.Ranges.{rise-not-negative, rise-bounded, d-bounded, n-bounded, parts-bounded, n-rise-bounded, linear-bounded}
+use Rattle.scene.proofs.Ranges.{rise-not-negative, rise-bounded, parts-bounded, n-rise-bounded, linear-bounded, d-fits, n-fits}
 use Rattle.scene.proofs.linear_part.Statement.{statement}
 use Rattle.scene.proofs.linear_part.Tie as tie
 
 module _ {k : Constants} {n : ℤ} {parts : ℕ} (h : ConstantsRange k × (pos 0 ≤ℤ n) × ((pos 4 *ℤ n) ≤ℤ (pos 5 *ℤ k .d)) × (pos parts ≡ floor (pos 134217728 *ℤ n) (k .d))) where
   rise-fits : SFits w64 (k .rise)
   rise-fits = bounded-fits (rise-bounded (h .0)) (lit< tt)
-
-  d-fits : SFits w64 (k .d)
-  d-fits = bounded-fits (d-bounded (h .0)) (lit< tt)
-
-  n-fits : SFits w64 n
-  n-fits = bounded-fits (n-bounded (h .0) (h .1) (h .2)) (lit< tt)
 
   n-rise-fits : SFits w64 (n *ℤ k .rise)
   n-rise-fits = bounded-fits (n-rise-bounded (h .0) (h .1) (h .2)) (lit< tt)
@@ -116,18 +110,18 @@ returns c = natural-reads-back (c .before .before .round-natural .result) (cast-
 mul-round-small : tie.Need-mul-round-small
 mul-round-small c =
     let h = c .before .before .before .before .before .before .before .pre in
-    rw (reads-back (n-fits h), reads-back (rise-fits h)) (n-rise-fits h)
+    rw (reads-back (n-fits (h .0) (h .1) (h .2)), reads-back (rise-fits h)) (n-rise-fits h)
 
 round-small-requires : tie.Need-round-small-requires
 round-small-requires c κs =
     let h = c .before .before .before .before .before .before .before .before .pre in
-    rw (reads-back (n-fits h), reads-back (rise-fits h), reads-back (n-rise-fits h), reads-back (d-fits h)) (n-rise-small h, h .0 .d-low, d-small h)
+    rw (reads-back (n-fits (h .0) (h .1) (h .2)), reads-back (rise-fits h), reads-back (n-rise-fits h), reads-back (d-fits (h .0))) (n-rise-small h, h .0 .d-low, d-small h)
 
 returns-2 : tie.Need-returns-2
 returns-2 c =
     let h = c .before .before .before .before .before .before .before .before .before .pre in
     result-reads-back (c .round-small .result) (c .round-small .ok)
-    ∙ (rw (reads-back (n-fits h), reads-back (rise-fits h), reads-back (n-rise-fits h), reads-back (d-fits h)) at (c .round-small .ensures))
+    ∙ (rw (reads-back (n-fits (h .0) (h .1) (h .2)), reads-back (rise-fits h), reads-back (n-rise-fits h), reads-back (d-fits (h .0))) at (c .round-small .ensures))
 
 pub linear-part-spec : {M : Type 1} → statement M
 linear-part-spec =

@@ -16,7 +16,7 @@ use Rattle.integers.proofs.Order.{ltZ-false}
 use Rattle.integers.proofs.Machine.{bounded-fits, reads-back, result-reads-back, natural-reads-back}
 use Rattle.scene.specs.declared.Constants.{Constants}
 use Rattle.scene.specs.Scene.{ConstantsRange, numerator}
-use Rattle.scene.proofs.Ranges.{d-bounded, slope-bounded, base-bounded, slope-count-bounded, numerator-bounded, four-n-bounded, five-d-bounded}
+use Rattle.scene.proofs.Ranges.{d-fits, slope-bounded, base-bounded, slope-count-bounded, numerator-bounded, four-n-bounded, five-d-bounded}
 use Rattle.scene.proofs.Delivered.{temperatureOf, scene-negative, scene-above, scene-guard-low, scene-guard-high, scene-kelvin, WithinGuard, within-guard}
 use Rattle.scene.proofs.scene_of.Statement.{statement}
 use Rattle.scene.proofs.scene_of.Tie as tie
@@ -36,9 +36,6 @@ module _ {k : Constants} {count : ℕ} (h : ConstantsRange k) (c : count ≤ 655
 
   four-n-fits : SFits w64 (pos 4 *ℤ numerator k count)
   four-n-fits = bounded-fits (four-n-bounded h c) (lit< tt)
-
-  d-fits : SFits w64 (k .d)
-  d-fits = bounded-fits (d-bounded h) (lit< tt)
 
   five-d-fits : SFits w64 (pos 5 *ℤ k .d)
   five-d-fits = bounded-fits (five-d-bounded h) (lit< tt)
@@ -68,7 +65,7 @@ n-not-negative c =
 mul-if2 : tie.Need-mul-if2
 mul-if2 c =
     let s = c .before .before .before .before .before .before .before in
-    rw (reads-back (d-fits (s .pre) (count-high s))) (five-d-fits (s .pre) (count-high s))
+    rw (reads-back (d-fits (s .pre))) (five-d-fits (s .pre) (count-high s))
 
 mul-if2-2 : tie.Need-mul-if2-2
 mul-if2-2 c =
@@ -82,7 +79,7 @@ n-test : (s : tie.Start) (b : Bool)
 n-test s b e =
     let h = s .pre in
     let c = count-high s in
-    rw (reads-back (d-fits h c), reads-back (five-d-fits h c), n-is h c, reads-back (n-fits h c), reads-back (four-n-fits h c)) at e
+    rw (reads-back (d-fits h), reads-back (five-d-fits h c), n-is h c, reads-back (n-fits h c), reads-back (four-n-fits h c)) at e
 
 returns-2 : tie.Need-returns-2
 returns-2 c =

@@ -17,7 +17,7 @@ use Rattle.integers.proofs.Nearest.{r-of-floor}
 use Rattle.scene.specs.declared.Constants.{Constants}
 use Rattle.scene.specs.Temperature.{X, temperature}
 use Rattle.scene.specs.Scene.{ConstantsRange}
-use Rattle.scene.proofs.Ranges.{tc-bounded, d-bounded, n-bounded, parts-bounded, x-bounded, linear-sum-bounded, temperature-bounded}
+use Rattle.scene.proofs.Ranges.{tc-bounded, n-bounded, parts-bounded, x-bounded, linear-sum-bounded, temperature-bounded, d-fits, n-fits}
 use Rattle.scene.proofs.units.Statement.{statement}
 use Rattle.scene.proofs.units.Tie as tie
 
@@ -27,12 +27,6 @@ module _ {k : Constants} {n : ℤ} (h : ConstantsRange k × (pos 0 ≤ℤ n) × 
 
   tnl-fits : SFits w64 (k .tnl)
   tnl-fits = bounded-fits (h .0 .tnl) (lit< tt)
-
-  d-fits : SFits w64 (k .d)
-  d-fits = bounded-fits (d-bounded (h .0)) (lit< tt)
-
-  n-fits : SFits w64 n
-  n-fits = bounded-fits (n-bounded (h .0) (h .1) (h .2)) (lit< tt)
 
   x-fits : SFits w64 (X n (k .d))
   x-fits = bounded-fits (x-bounded (h .0) (h .1) (h .2)) (lit< tt)
@@ -52,10 +46,10 @@ module _ {k : Constants} {n : ℤ} (h : ConstantsRange k × (pos 0 ≤ℤ n) × 
 parts-of-requires : tie.Need-parts-of-requires
 parts-of-requires c κs =
     let h = c .before .pre in
-    rw (reads-back (n-fits h), reads-back (d-fits h)) (h .1, n-bounded (h .0) (h .1) (h .2) .high, h .0 .d-low)
+    rw (reads-back (n-fits (h .0) (h .1) (h .2)), reads-back (d-fits (h .0))) (h .1, n-bounded (h .0) (h .1) (h .2) .high, h .0 .d-low)
 
 parts-are : (c : tie.After-parts-of) → pos (c .parts-of .result) ≡ floor (pos 134217728 *ℤ c .before .before .args .n) (c .before .before .args .k .d)
-parts-are c = let h = c .before .before .pre in rw (reads-back (n-fits h), reads-back (d-fits h)) at (c .parts-of .ensures)
+parts-are c = let h = c .before .before .pre in rw (reads-back (n-fits (h .0) (h .1) (h .2)), reads-back (d-fits (h .0))) at (c .parts-of .ensures)
 
 round-natural-requires : tie.Need-round-natural-requires
 round-natural-requires c κs =
@@ -76,10 +70,10 @@ cast-x : tie.Need-cast-x
 cast-x c = result-fits c
 
 linear-part-requires : tie.Need-linear-part-requires
-linear-part-requires c κs = let h = c .before .before .before .pre in rw (reads-back (n-fits h)) (h .0, h .1, h .2, parts-are (c .before))
+linear-part-requires c κs = let h = c .before .before .before .pre in rw (reads-back (n-fits (h .0) (h .1) (h .2))) (h .0, h .1, h .2, parts-are (c .before))
 
 linear-is : (c : tie.After-linear-part) → c .linear-part .result ≡ r (c .before .before .before .before .args .n *ℤ c .before .before .before .before .args .k .rise) (c .before .before .before .before .args .k .d)
-linear-is c = rw (reads-back (n-fits (c .before .before .before .before .pre))) at (c .linear-part .ensures)
+linear-is c = let h = c .before .before .before .before .pre in rw (reads-back (n-fits (h .0) (h .1) (h .2))) at (c .linear-part .ensures)
 
 add-result : tie.Need-add-result
 add-result c =

@@ -1,6 +1,6 @@
 -- `station::sounder_thermometer` meets its contract: each case of the answer has its number, and a temperature is within ±245,760, which
 -- an i32 holds. Assumes nothing.
-use Prim.Native.Nat.{ℕ, _<_}
+use Prim.Native.Nat.{_<_}
 use native.Mathlib.Nat.{lt-of-le-of-lt}
 use native.Mathlib.Omega.{arith}
 use mathlib.Core.Path.{_≡_, ap, sym, _∙_}

@@ -4,14 +4,8 @@ use native.Mathlib.Omega.{arith}
 use mathlib.Core.Path.{_≡_, refl}
 use mathlib.Core.List.{List, [], _∷_}
 use lib.ListN.{length, getD}
-use lib.Ieee.{nan}
-use Rattle.product.specs.declared.Summary.{Summary}
 
 pub any-default : {A : Type 0} (l : List A) (i : ℕ) (d e : A) → i < length l → getD l i d ≡ getD l i e
 any-default [] i d e below = absurd (omega arith)
 any-default (x ∷ l) zero d e below = refl
 any-default (x ∷ l) (suc i) d e below = any-default l i d e (omega arith)
-
--- what Rattle takes to stand past the end of an array of summaries
-abbrev pub pastSummaries : Summary
-pastSummaries = record { count = 0; low = nan; high = nan }
