@@ -8,6 +8,7 @@ pub mod HistoryLaws
 pub mod RestartLaws
 pub mod Demand
 pub mod FeedListLaws
+pub mod FeedListRuns
 pub mod BenchScan
 pub mod BenchFeed
 pub mod BenchRows

@@ -5,7 +5,7 @@ use native.Mathlib.Omega.{arith}
 use mathlib.Core.Path.{_≡_, refl, sym, ap, _∙_}
 use mathlib.Core.List.{List, [], _∷_, _++_, append-assoc, append-nil}
 use lib.ListN.{length, getD, set, take, drop, length-append, length-take, length-drop, drop-of-length-le}
-use lib.Seq.{sets, sets-eq, length-take-le, take-all, take-at, drop-at, take-append-le, take-take, drop-append-add, drop-drop, getD-take, getD-drop}
+use lib.Seq.{sets, sets-eq, length-take-le, take-all, take-at, drop-at, take-append-le, take-take, drop-append-add, drop-drop, getD-take, getD-drop, take-add}
 use Rattle.lists.specs.Build.{put}
 
 -- ---- what a put leaves and what it holds
@@ -39,6 +39,13 @@ module _ {A : Type 0} (b v : List A) (at : ℕ) where
       ap (λ (l : List A). take (length v) (drop at l)) (append-assoc (take at b) v past)
       ∙ ap (take (length v)) (drop-at (take at b) (v ++ past) at (length-take-le at b fits))
       ∙ take-at v past (length v) refl
+
+  -- a part before what was put
+  pub read-before-put : (a n : ℕ) → a + n ≤ at → at + length v ≤ length b → take n (drop a (put b at v)) ≡ take n (drop a b)
+  read-before-put a n before fits =
+      sym (drop-at (take a (put b at v)) (take n (drop a (put b at v))) a (length-take-le a (put b at v) (omega (arith, length-put fits))))
+      ∙ ap (drop a) (sym (take-add a n (put b at v)) ∙ take-before-put (a + n) before (omega arith) ∙ take-add a n b)
+      ∙ drop-at (take a b) (take n (drop a b)) a (length-take-le a b (omega arith))
 
   pub getD-before-put : (i : ℕ) (d : A) → i < at → at ≤ length b → getD (put b at v) i d ≡ getD b i d
   getD-before-put i d before fits =
