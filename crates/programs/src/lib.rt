@@ -51,16 +51,16 @@ fn calibrate(calibrator: Calibrator, scan: &[u8]) -> Turned
     let calibrated = lines::calibrate_record(calibrator, scan, &mut product, &mut line);
     let output = calibrated.output;
     let errors = calibrated.errors;
-    let next = calibrated.calibrator;
+    let after = calibrated.calibrator;
     if !io::write_all(STDOUT_FILENO, &product[..output]) {
         return Turned {
             more: false,
-            calibrator: next,
+            calibrator: after,
         };
     }
     Turned {
         more: io::write_all(STDERR_FILENO, &line[..errors]),
-        calibrator: next,
+        calibrator: after,
     }
 }
 
