@@ -3,7 +3,8 @@
  *
  * README.md has the formats of tables, scan records and products and the numbers of the refusals. Every
  * function answers every input, keeps nothing between calls and allocates nothing, so that any number of
- * threads may call it, each with buffers of its own. No function writes past what is named here.
+ * threads may call it, each with buffers of its own; a call takes about 16 KiB of stack. No function writes
+ * past what is named here.
  *
  * A pointer and the count behind it are one argument; the pointer may be null where the count is 0. What is
  * written must not overlap anything else that the same call is given.
@@ -33,7 +34,7 @@ uint8_t sounder_open(const uint8_t *table, size_t table_len);
 /* One thermometer, from the table's values (R_PAM, and R0, alpha, delta, beta of the thermometer) and the
  * record's counts: 0 and, in *t, the temperature in units of 1/4096 degree Celsius; or 8 (R_PAM or a
  * coefficient outside its range), 9 (pam not above offset), 10 (no temperature for the count), and *t stays
- * as it was. */
+ * as it was. t is not null. */
 uint8_t sounder_thermometer(uint32_t r_pam, uint32_t r0, uint32_t alpha, uint32_t delta, uint32_t beta,
                             uint16_t pam, uint16_t offset, uint16_t count, int32_t *t);
 
