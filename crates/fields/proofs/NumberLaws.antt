@@ -8,8 +8,8 @@ use mathlib.Core.List.{List}
 use lib.Dec.{le→leb}
 use lib.IntN.{pos, negsuc, negℤ, _-ℤ_}
 use lib.Signed.{_≤ℤ_, leZ-yes}
-use lib.ListN.{getD, take, drop}
-use lib.Seq.{getD-take, getD-drop}
+use lib.ListN.{getD, drop}
+use lib.Seq.{getD-drop}
 use borrow.Author.Tests.{lt-ltb, le-ltb}
 use Rattle.fields.specs.Numbers.{u16At, u32At, signed}
 
@@ -18,9 +18,6 @@ use Rattle.fields.specs.Numbers.{u16At, u32At, signed}
 module _ (s : List ℕ) (bytes : (k : ℕ) → getD s k 0 < 256) (i : ℕ) where
   pub u16-below : u16At s i < 65536
   u16-below = omega (arith, bytes i, bytes (i + 1))
-
-  pub u32-below : u32At s i < 4294967296
-  u32-below = omega (arith, bytes i, bytes (i + 1), bytes (i + 2), bytes (i + 2 + 1))
 
 -- ---- two lists with the same bytes have the same number there
 
@@ -42,13 +39,6 @@ module _ (s : List ℕ) (k i : ℕ) where
 
   pub u32-of-drop : u32At (drop k s) i ≡ u32At s (k + i)
   u32-of-drop = u32-same (drop k s) s i (k + i) (λ j inside. getD-drop k s (i + j) 0 ∙ simp add-assoc)
-
-module _ (s : List ℕ) (n i : ℕ) where
-  pub u16-of-take : i + 1 < n → u16At (take n s) i ≡ u16At s i
-  u16-of-take within = u16-same (take n s) s i i (λ j inside. getD-take n s (i + j) 0 (omega arith))
-
-  pub u32-of-take : i + 3 < n → u32At (take n s) i ≡ u32At s i
-  u32-of-take within = u32-same (take n s) s i i (λ j inside. getD-take n s (i + j) 0 (omega arith))
 
 -- ---- two's complement
 

@@ -7,7 +7,7 @@ use lib.IntN.{ℤ, pos, negsuc, negℤ, natAbs, _+ℤ_, _-ℤ_, _*ℤ_}
 use lib.Signed.{_≤ℤ_, _<ℤ_, ≤ℤ-refl}
 use Rattle.integers.specs.Bounds.{Bounded}
 use Rattle.integers.proofs.Ring.{_:+_, _:*_, opp, #, v0, v1, v2, v3}
-use Rattle.integers.proofs.Linear.{order, plus-neg, minus-neg, size-parts}
+use Rattle.integers.proofs.Linear.{order, plus-neg, minus-neg}
 use Rattle.integers.proofs.Naturals.{natural-not-negative, natural-at-most}
 use Rattle.integers.proofs.Certificate.{_:≤_, _:<_, hyp, nat, _⊕_, _⊗_, le-by}
 
@@ -67,9 +67,3 @@ bounded-size {x = negsuc n} {m} h = omega (arith, order, h .low, plus-neg (pos m
 
 pub natural-bounded : {n m : ℕ} → n ≤ m → Bounded (pos n) (pos m)
 natural-bounded h = bounded-not-negative (natural-not-negative _) (natural-at-most h)
-
-pub size-bounded : (x : ℤ) {m : ℕ} → natAbs x ≤ m → Bounded x (pos m)
-size-bounded x {m} h = record {
-  low = omega (arith, order, size-parts x, plus-neg (pos m), minus-neg (pos m));
-  high = omega (arith, order, size-parts x);
-}

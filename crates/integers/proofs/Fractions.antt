@@ -36,6 +36,3 @@ distance-weaker {limit} {more} {t} {e} p q h d = record {
     high = (le-by ((limit .num) ∷ (limit .den) ∷ (more .num) ∷ (more .den) ∷ (e .den) ∷ (t *ℤ e .den -ℤ e .num) ∷ []) ((# 0 :< v1) ∷ (# 0 :< v3) ∷ (v0 :* v3 :≤ v2 :* v1) ∷ (# 0 :< v4) ∷ (v1 :* v5 :≤ v0 :* v4) ∷ []) (v3 :* v5) (v2 :* v4) (hyp 0 ⊕ hyp 1 ⊕ hyp 3 ⊕ hyp 5 ⊕ hyp 0 ⊗ hyp 1 ⊕ hyp 2 ⊗ hyp 5 ⊕ hyp 3 ⊗ hyp 4) tt p q h (d .den-above) (d .apart .high));
   };
 }
-
-pub fraction-at-most-trans : (a b c : Fraction) → pos 0 <ℤ a .den → pos 0 <ℤ b .den → pos 0 <ℤ c .den → a ≤ᶠ b → b ≤ᶠ c → a ≤ᶠ c
-fraction-at-most-trans a b c p q s h k = (le-by ((a .num) ∷ (a .den) ∷ (b .num) ∷ (b .den) ∷ (c .num) ∷ (c .den) ∷ []) ((# 0 :< v1) ∷ (# 0 :< v3) ∷ (# 0 :< v5) ∷ (v0 :* v3 :≤ v2 :* v1) ∷ (v2 :* v5 :≤ v4 :* v3) ∷ []) (v0 :* v5) (v4 :* v1) (hyp 0 ⊕ hyp 2 ⊕ hyp 4 ⊕ hyp 5 ⊕ hyp 0 ⊗ hyp 2 ⊕ hyp 1 ⊗ hyp 5 ⊕ hyp 3 ⊗ hyp 4) tt p q s h k)

@@ -1,11 +1,11 @@
 -- The linear reading: z is `plus z` - `minus z`, two naturals of which one is 0, and `omega` reads naturals.
 -- `omega (arith, order, sum-parts x y)` proves an order of ℤ from orders of ℤ and what the operations do to the parts.
 use mathlib.Core.Path.{_≡_, refl, ap}
-use Prim.Native.Nat.{ℕ, zero, suc, _+_, _*_, _-_, _≤_, _<_}
+use Prim.Native.Nat.{ℕ, zero, suc, _+_, _-_, _≤_, _<_}
 use native.Mathlib.Decide.{decLt}
 use native.Mathlib.Omega.{arith}
 use lib.Dec.{leb→le, le→leb, ltb→lt, lt→ltb}
-use lib.IntN.{ℤ, pos, negsuc, negℤ, natAbs, subℕ, _+ℤ_, _-ℤ_, _*ℤ_}
+use lib.IntN.{ℤ, pos, negsuc, negℤ, natAbs, subℕ, _+ℤ_, _-ℤ_}
 use lib.Signed.{_≤ℤ_, _<ℤ_}
 use borrow.Author.Tests.{lt-ltb, le-ltb}
 
@@ -51,18 +51,6 @@ minus-neg (negsuc n) = refl
 pub difference-parts : (x y : ℤ) → plus (x -ℤ y) + (minus x + plus y) ≡ plus x + minus y + minus (x -ℤ y)
 difference-parts x y = omega (arith, sum-parts x (negℤ y), plus-neg y, minus-neg y)
 
-pub plus-product : (x y : ℤ) → plus (x *ℤ y) ≡ plus x * plus y + minus x * minus y
-plus-product (pos a) (pos b) = omega arith
-plus-product (pos a) (negsuc b) = omega (arith, plus-neg (pos (a * suc b)))
-plus-product (negsuc a) (pos b) = omega (arith, plus-neg (pos (suc a * b)))
-plus-product (negsuc a) (negsuc b) = omega arith
-
-pub minus-product : (x y : ℤ) → minus (x *ℤ y) ≡ plus x * minus y + minus x * plus y
-minus-product (pos a) (pos b) = omega arith
-minus-product (pos a) (negsuc b) = omega (arith, minus-neg (pos (a * suc b)))
-minus-product (negsuc a) (pos b) = omega (arith, minus-neg (pos (suc a * b)))
-minus-product (negsuc a) (negsuc b) = omega arith
-
 -- ---- the order and equality by parts
 pub at-most-parts : {x y : ℤ} → x ≤ℤ y → plus x + minus y ≤ plus y + minus x
 at-most-parts {x = pos a} {y = pos b} h = omega (arith, leb→le a b (h .le))
@@ -99,8 +87,3 @@ pub ruleset order = (at-most-parts, below-parts, parts-at-most, parts-below)
 pub size-parts : (x : ℤ) → natAbs x ≡ plus x + minus x
 size-parts (pos a) = omega arith
 size-parts (negsuc a) = omega arith
-
--- one of the parts is 0; listed where a product of two numbers is read
-pub one-part : (x : ℤ) → plus x * minus x ≡ 0
-one-part (pos a) = omega arith
-one-part (negsuc a) = omega arith

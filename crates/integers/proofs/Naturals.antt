@@ -1,10 +1,10 @@
 -- Bridges to ℕ. Sums and products of `pos m` and `pos n` compute to `pos (m + n)` and `pos (m * n)`, so an order or an equation on
 -- naturals is shown on ℤ, by `le-by` or `ring`, and carried over by these.
-use mathlib.Core.Path.{_≡_, refl, sym, ap, subst}
+use mathlib.Core.Path.{_≡_, refl, sym, subst}
 use Prim.Native.Nat.{ℕ, _-_, _≤_, _<_}
 use native.Mathlib.Omega.{arith}
 use lib.Dec.{leb→le, le→leb, ltb→lt, lt→ltb}
-use lib.IntN.{ℤ, pos, negsuc, natAbs, _-ℤ_}
+use lib.IntN.{ℤ, pos, negsuc, _-ℤ_}
 use lib.Signed.{_≤ℤ_, _<ℤ_}
 use Rattle.integers.proofs.Linear.{parts-equal, difference-parts}
 
@@ -16,12 +16,6 @@ at-most-natural {m} {n} h = leb→le m n (h .le)
 
 pub natural-below : {m n : ℕ} → m < n → pos m <ℤ pos n
 natural-below {m} {n} h = record { lt = lt→ltb m n h }
-
-pub below-natural : {m n : ℕ} → pos m <ℤ pos n → m < n
-below-natural {m} {n} h = ltb→lt m n (h .lt)
-
-pub equal-natural : {m n : ℕ} → pos m ≡ pos n → m ≡ n
-equal-natural e = ap natAbs e
 
 pub natural-not-negative : (n : ℕ) → pos 0 ≤ℤ pos n
 natural-not-negative n = natural-at-most (omega arith)

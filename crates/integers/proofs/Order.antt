@@ -74,6 +74,3 @@ holds-true false t = absurd t
 
 pub at-most-test : {x y : ℤ} → x ≤ℤ y → leZ x y ≡ true
 at-most-test {x} {y} h = holds-true (leZ x y) (h .le)
-
-pub below-test : {x y : ℤ} → x <ℤ y → ltZ x y ≡ true
-below-test {x} {y} h = holds-true (ltZ x y) (h .lt)

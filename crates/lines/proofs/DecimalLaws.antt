@@ -49,9 +49,6 @@ module _ (n r : ℕ) (fewest : Fewest 10 1 n r) where
   unfolding decimal
   digits-are-decimal = ap (λ (k : ℕ). digits 10 k n) (sym places-are-fewest)
 
-  pub length-decimal : length (decimal n) ≡ r
-  length-decimal = ap length (sym digits-are-decimal) ∙ length-digits 10 r n
-
   -- a number of 32 bits
   pub ten-digits : n < 4294967296 → r ≤ 10
   ten-digits small = by-order (decLe r 10)

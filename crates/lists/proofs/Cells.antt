@@ -1,7 +1,7 @@
 -- Laws of `cells` and `filled`, for rules that give cells of k elements each: a buffer that is filled from the front, a cell at a time.
 use Prim.Native.Nat.{ℕ, zero, suc, _+_, _*_, _<_, _≤_}
 use native.Mathlib.Decide.{decLt}
-use native.Mathlib.Nat.{le-refl, suc-mul, zero-add, zero-mul}
+use native.Mathlib.Nat.{le-refl, suc-mul, zero-mul}
 use native.Mathlib.Numerals.{add-one}
 use native.Mathlib.Omega.{arith}
 use mathlib.Core.Path.{_≡_, refl, sym, ap, ap₂, _∙_}
@@ -31,10 +31,6 @@ module _ {A : Type 0} (f : ℕ → List A) (k : ℕ) (each : (i : ℕ) → lengt
       put-behind (cells f n) (f n) b (n * k) (length-cells n)
       ∙ ap (λ (x : ℕ). cells f n ++ f n ++ drop x b) (ap (λ (x : ℕ). n * k + x) (each n) ∙ sym (suc-mul n k))
       ∙ ap (λ (x : ℕ). filled f k x b) (sym (add-one n))
-
-  pub filled-is-put : (n : ℕ) (b : List A) → filled f k n b ≡ put b 0 (cells f n)
-  filled-is-put n b =
-      ap (λ (x : ℕ). cells f n ++ drop x b) (sym (length-cells n) ∙ sym (zero-add (length (cells f n))))
 
   -- the cell i of n stands at i * k, whatever comes behind
   pub cell-at : (n i : ℕ) (behind : List A) → i < n → take k (drop (i * k) (cells f n ++ behind)) ≡ f i

@@ -1,11 +1,11 @@
 -- Laws of `put`: what it leaves and what it holds, and what comes to a put: stores in a row, a part that was lent, two puts in a row.
-use Prim.Native.Nat.{ℕ, _+_, _-_, _<_, _≤_}
-use native.Mathlib.Nat.{add-assoc, le-refl, zero-add}
+use Prim.Native.Nat.{ℕ, _+_, _-_, _≤_}
+use native.Mathlib.Nat.{add-assoc}
 use native.Mathlib.Omega.{arith}
 use mathlib.Core.Path.{_≡_, refl, sym, ap, _∙_}
-use mathlib.Core.List.{List, [], _∷_, _++_, append-assoc, append-nil}
-use lib.ListN.{length, getD, set, take, drop, length-append, length-take, length-drop, drop-of-length-le}
-use lib.Seq.{sets, sets-eq, length-take-le, take-all, take-at, drop-at, take-append-le, take-take, drop-append-add, drop-drop, getD-take, getD-drop, take-add}
+use mathlib.Core.List.{List, [], _∷_, _++_, append-assoc}
+use lib.ListN.{length, set, take, drop, length-append, length-take, length-drop}
+use lib.Seq.{sets, sets-eq, length-take-le, take-all, take-at, drop-at, take-append-le, take-take, drop-append-add, drop-drop, take-add}
 use Rattle.lists.specs.Build.{put}
 
 -- ---- what a put leaves and what it holds
@@ -46,30 +46,6 @@ module _ {A : Type 0} (b v : List A) (at : ℕ) where
       sym (drop-at (take a (put b at v)) (take n (drop a (put b at v))) a (length-take-le a (put b at v) (omega (arith, length-put fits))))
       ∙ ap (drop a) (sym (take-add a n (put b at v)) ∙ take-before-put (a + n) before (omega arith) ∙ take-add a n b)
       ∙ drop-at (take a b) (take n (drop a b)) a (length-take-le a b (omega arith))
-
-  pub getD-before-put : (i : ℕ) (d : A) → i < at → at ≤ length b → getD (put b at v) i d ≡ getD b i d
-  getD-before-put i d before fits =
-      sym (getD-take at (put b at v) i d before)
-      ∙ ap (λ (l : List A). getD l i d) (take-before-put at (le-refl at) fits)
-      ∙ getD-take at b i d before
-
-  pub getD-past-put : (i : ℕ) (d : A) → at + length v ≤ i → at ≤ length b → getD (put b at v) i d ≡ getD b i d
-  getD-past-put i d past fits =
-      let place : i ≡ at + length v + (i - (at + length v)) = omega arith in
-      ap (λ (k : ℕ). getD (put b at v) k d) place
-      ∙ sym (getD-drop (at + length v) (put b at v) (i - (at + length v)) d)
-      ∙ ap (λ (l : List A). getD l (i - (at + length v)) d) (drop-past-put (at + length v) (le-refl _) fits)
-      ∙ getD-drop (at + length v) b (i - (at + length v)) d
-      ∙ ap (λ (k : ℕ). getD b k d) (sym place)
-
-  pub getD-in-put : (i : ℕ) (d : A) → i < length v → at ≤ length b → getD (put b at v) (at + i) d ≡ getD v i d
-  getD-in-put i d inside fits =
-      sym (getD-drop at (put b at v) i d)
-      ∙ sym (getD-take (length v) (drop at (put b at v)) i d inside)
-      ∙ ap (λ (l : List A). getD l i d) (read-put fits)
-
-pub put-over-all : {A : Type 0} (b v : List A) → length b ≤ length v → put b 0 v ≡ v
-put-over-all b v covers = rw (zero-add (length v), drop-of-length-le b covers) (append-nil v)
 
 -- ---- stores in a row
 
@@ -116,14 +92,6 @@ module _ {A : Type 0} where
   lent-part-is-put xs ys a e end =
       let long : e - a ≡ length ys = omega arith in
       rw long (simp (append-assoc, drop-drop))
-
-  -- `&mut xs[a..]`, at whose front v was put
-  pub lent-rest-is-put : (xs v : List A) (a : ℕ)
-      → take a xs ++ (put (take (length xs - a) (drop a xs)) 0 v ++ drop (length xs - a) (drop a xs)) ≡ put xs a v
-  lent-rest-is-put xs v a =
-      let all : length (drop a xs) ≤ length xs - a = simp length-drop (omega arith) in
-      rw (take-all (length xs - a) (drop a xs) all, drop-of-length-le (drop a xs) all, append-nil (put (drop a xs) 0 v))
-      (ap (λ (n : ℕ). take a xs ++ (v ++ drop n (drop a xs))) (zero-add (length v)) ∙ simp (append-assoc, drop-drop))
 
   -- a head was put at `at`, and then the part behind it was lent and came back as the value
   pub head-and-value-are-put : (b head value : List A) {whole part : List A} (at a e : ℕ)

@@ -34,7 +34,3 @@ sum-bounded f m (suc n) e = omega (arith, sum-bounded f m n (λ i h. e i (omega 
 pub sum-rises : (f : ℕ → ℕ) (a b : ℕ) → a ≤ b → sum f a ≤ sum f b
 unfolding sum
 sum-rises f a b h = le-ind (λ (n : ℕ). sum f a ≤ sum f n) (le-refl _) (λ n above least. omega arith) b h
-
--- a term is at most the sum
-pub term-at-most : (f : ℕ → ℕ) (n i : ℕ) → i < n → f i ≤ sum f n
-term-at-most f n i h = omega (arith, sum-more f i, sum-rises f (i + 1) n (omega arith))

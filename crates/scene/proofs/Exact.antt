@@ -11,7 +11,7 @@ use lib.IntN.{ℤ, pos, negsuc, natAbs}
 use lib.Pow.{shl-lt}
 use lib.Ieee.{Float, Format, nan, inf, fin, binary32, round, units as roundedUnits, odd, low, emax, prec, size, nearest, mul, div, ofInt, ofBits, toBits, isNan, inFloat, fits, up, down, lt, below}
 use lib.Ieee.Fits.{round-fits, down-pos}
-use lib.Ieee.Bits.{ofBits-toBits, toBits-lt}
+use lib.Ieee.Bits.{ofBits-toBits}
 use lib.Ieee.Exact.{HasValue, round-exact}
 use lib.Ieee.Back.{round-whole}
 use lib.Ieee.Positive.{positive-of-value, mul-at}
@@ -165,13 +165,3 @@ scene-not-nan = scene-cases (λ s. T (not (isNan (value s)))) tt tt kelvin-not-n
 pub flagged-not-nan : T (not (isNan (value Flagged)))
 unfolding isNan
 flagged-not-nan = tt
-
--- ---- the bits of a scene are below 2^32 and give its value back
-
-pub bits-below : (s : Scene) → T (fits binary32 (value s)) → bits s < 4294967296
-unfolding bits
-bits-below s h = toBits-lt binary32 (value s) h
-
-pub bits-back : (s : Scene) → T (fits binary32 (value s)) → ofBits binary32 (bits s) ≡ value s
-unfolding bits
-bits-back s h = ofBits-toBits binary32 (value s) h

@@ -61,10 +61,6 @@ module _ (alpha delta beta : ℕ) (m : ℤ) where
   place : Last isReached 491520 (greatest isReached 491520)
   place = greatest-last isReached 491520
 
-  pub answer-in-range : InRange (answer alpha delta beta m)
-  unfolding answer
-  answer-in-range = place-in-range (place .at-most)
-
   -- a place that is reached, and none after it, is the answer's
   pub answer-is : {k : ℕ} → k ≤ 491520 → F alpha delta beta (unitsAt k) ≤ℤ m
       → ((j : ℕ) → j ≤ 491520 → F alpha delta beta (unitsAt j) ≤ℤ m → j ≤ k) → answer alpha delta beta m ≡ unitsAt k
