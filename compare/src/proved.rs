@@ -180,12 +180,14 @@ const RECORD_LAYOUT: [(u8, usize); 5] = [(1, 4), (2, 34), (3, 176), (4, 176), (5
 
 /// The 59 values that a scan keeps of its accepted samples.
 fn kept(table: &[u8], scan: &[u8]) -> Vec<u32> {
-    assert!(table.len() == 741 && scan.len() == 4_629);
+    (0..59).map(|k| kept_value(table, scan, k)).collect()
+}
+
+/// Value k of what a record keeps; all are worked out for it.
+pub fn kept_value(table: &[u8], scan: &[u8], k: usize) -> u32 {
+    assert!(table.len() == 741 && scan.len() == 4_629 && k < 59);
     assert!(layout_is_right(scan, &RECORD_LAYOUT));
-    let (table_start, scan_start) = (table.as_ptr(), scan.as_ptr());
-    (0..59)
-        .map(|k| unsafe { compared_kept(table_start, table.len(), scan_start, scan.len(), k) })
-        .collect()
+    unsafe { compared_kept(table.as_ptr(), table.len(), scan.as_ptr(), scan.len(), k) }
 }
 
 /// Whether constants are as a channel with flag 0 under an accepted table has them.

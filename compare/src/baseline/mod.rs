@@ -18,6 +18,7 @@ mod product;
 
 mod calibrator;
 
+pub use acceptance::accepted_scan;
 pub use calibrator::Calibrator;
 pub use product::write_product;
 pub use scene::{scene_bits, Constants};

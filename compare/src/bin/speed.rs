@@ -196,9 +196,60 @@ fn feeds(count: usize, rounds: usize) {
     report(&format!("one scan of {count}"), "us", 1_000.0, &times);
 }
 
+/// What one record adds to the window: its accepted samples, as they are kept.
+fn samples() {
+    let list = scans(1);
+    let record = &list.feeds[0].record;
+    let table = baseline::open(&list.table).expect("the bench table is accepted");
+    let by_hand = || {
+        let (counts, warm, cold) = (&record[10..44], &record[47..223], &record[226..402]);
+        baseline::accepted_scan(black_box(&table), counts, warm, cold)
+    };
+    let last = || proved::kept_value(black_box(&list.table), black_box(record), 58);
+    assert_eq!(by_hand().temperatures[14], Some(i64::from(last())));
+    let times = least_times(
+        20_000,
+        1,
+        &mut [
+            &mut || {
+                black_box(last());
+            },
+            &mut || {
+                black_box(by_hand());
+            },
+        ],
+    );
+    report("one record's samples", "us", 1_000.0, &times);
+}
+
+/// The least that a product costs: each earth count is read, and four bytes are written for it.
+fn bytes_alone() {
+    let list = scans(1);
+    let earth = &list.feeds[0].record[405..];
+    let mut scenes = vec![0; 2 * earth.len()];
+    let times = least_times(
+        20_000,
+        1,
+        &mut [&mut || {
+            let places = scenes.chunks_exact_mut(4).zip(earth.chunks_exact(2));
+            for (place, count) in places {
+                let count = u16::from_be_bytes([count[0], count[1]]);
+                place.copy_from_slice(&u32::from(count).to_be_bytes());
+            }
+            black_box(&mut scenes);
+        }],
+    );
+    println!(
+        "the bytes of one product alone: {:.2} us",
+        times[0] / 1_000.0
+    );
+}
+
 fn main() {
     thermometers();
+    samples();
     products();
+    bytes_alone();
     feeds(100, 300);
     feeds(1_000, 30);
     feeds(10_000, 5);

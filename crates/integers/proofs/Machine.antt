@@ -1,26 +1,27 @@
--- Bridges to the machine's i64. The check writes a signed value x as its bits, `ofZ w64 x`, and reads bits n as `toZ w64 n`.
+-- Bridges to the machine's i64, and to every signed width where that costs nothing. The check writes a signed value x as its bits,
+-- `ofZ w64 x`, and reads bits n as `toZ w64 n`.
 use mathlib.Core.Path.{_≡_}
 use mathlib.Core.Bool.{Bool}
-use Prim.Native.Nat.{ℕ, zero, suc, _≤_, _<_, _/_}
+use Prim.Native.Nat.{ℕ, zero, suc, _≤_, _<_, _/_, _^_}
 use native.Mathlib.Nat.{lt-of-le-of-lt, div-le-self}
 use native.Mathlib.Omega.{arith}
 use lib.IntN.{ℤ, pos, negsuc, negℤ, natAbs}
 use lib.Dec.{T, leb→le, le→leb}
 use lib.Signed.{_≤ℤ_, _<ℤ_, ltZ, nonNeg, mag, mag-rem, mag-shr, quotZ, remZ}
-use mir.Syntax.{w64}
-use mir.Val.{Fits, SFits, toZ, ofZ}
+use mir.Syntax.{Width, w64}
+use mir.Val.{hbits, Fits, SFits, toZ, ofZ}
 use mir.ValLaws.{toZ-ofZ, toZ-pos}
 use Rattle.integers.specs.Rounding.{floor}
 use Rattle.integers.specs.Bounds.{Bounded}
 use Rattle.integers.proofs.Bounds.{bounded-size}
 
 -- ---- which numbers fit
-pub small-fits : (x : ℤ) → natAbs x < 9223372036854775808 → SFits w64 x
+pub small-fits : {w : Width} (x : ℤ) → natAbs x < 2 ^ hbits w → SFits w x
 small-fits (pos n) h = record { sfits = h }
 small-fits (negsuc n) h = record { sfits = omega arith }
 
-pub bounded-fits : {x : ℤ} {m : ℕ} → Bounded x (pos m) → m < 9223372036854775808 → SFits w64 x
-bounded-fits {x} h k = small-fits x (lt-of-le-of-lt (bounded-size h) k)
+pub bounded-fits : {w : Width} {x : ℤ} {m : ℕ} → Bounded x (pos m) → m < 2 ^ hbits w → SFits w x
+bounded-fits {x = x} h k = small-fits x (lt-of-le-of-lt (bounded-size h) k)
 
 least-to-greatest : (x : ℤ) → negsuc 9223372036854775807 ≤ℤ x → x ≤ℤ pos 9223372036854775807 → mag x < 9223372036854775808
 least-to-greatest (pos n) h k = omega (arith, leb→le n 9223372036854775807 (k .le))
@@ -39,8 +40,8 @@ fits-high {x = pos n} h = record { le = le→leb n 9223372036854775807 (omega (a
 fits-high {x = negsuc n} h = record { le = tt }
 
 -- ---- a value that fits is read back as itself
-pub reads-back : {x : ℤ} → SFits w64 x → toZ w64 (ofZ w64 x) ≡ x
-reads-back {x} h = toZ-ofZ w64 x h
+pub reads-back : {w : Width} {x : ℤ} → SFits w x → toZ w (ofZ w x) ≡ x
+reads-back {w} {x} h = toZ-ofZ w x h
 
 -- the result of a call, by its `.ok`
 pub result-reads-back : (x : ℤ) → mag x < 9223372036854775808 → toZ w64 (ofZ w64 x) ≡ x

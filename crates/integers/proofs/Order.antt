@@ -6,7 +6,7 @@ use Prim.Native.Nat.{suc, _+_, _*_, _≤_, _<_}
 use native.Mathlib.Omega.{arith}
 use lib.Dec.{T, le→leb, lt→ltb}
 use lib.IntN.{ℤ, pos, negsuc, _+ℤ_, _-ℤ_, _*ℤ_}
-use lib.Signed.{_≤ℤ_, _<ℤ_, leZ, ltZ, ltZ-no, ltZ-yes, ≤ℤ-refl}
+use lib.Signed.{_≤ℤ_, _<ℤ_, leZ, ltZ, ltZ-no, ltZ-yes, ≤ℤ-refl, clashℤ}
 use borrow.Author.Tests.{leb-false, ltb-false}
 use Rattle.integers.proofs.Linear.{order, parts-equal, sum-parts, difference-parts}
 use Rattle.integers.proofs.Naturals.{natural-of, natural-not-negative, not-negative-is}
@@ -74,3 +74,13 @@ holds-true false t = absurd t
 
 pub at-most-test : {x y : ℤ} → x ≤ℤ y → leZ x y ≡ true
 at-most-test {x} {y} h = holds-true (leZ x y) (h .le)
+
+pub below-test : {x y : ℤ} → x <ℤ y → ltZ x y ≡ true
+below-test {x} {y} h = holds-true (ltZ x y) (h .lt)
+
+pub test-fails : (b : Bool) → (b ≡ true → ⊥) → b ≡ false
+test-fails true f = absurd (f refl)
+test-fails false f = refl
+
+pub at-most-fails : {x y : ℤ} → x ≤ℤ y → ltZ y x ≡ false
+at-most-fails {x} {y} h = test-fails (ltZ y x) (λ t. clashℤ (ltZ-true t) h)

@@ -8,7 +8,8 @@ ghost use Rattle.lists.specs.Sum.{sum};
 ghost use Rattle.product.specs.Scenes.{sceneIn, noChannel, ChannelRange};
 ghost use Rattle.product.specs.Summary.{noneDelivered, lesser, greater, withTemperature, withScene, summaryOf};
 ghost use Rattle.product.specs.Product.{u16Bytes, u32Bytes, fieldBytes, channelScenes, sceneBytes, summaryBytes, summaries, summariesBytes, flagBytes, productOf, deliveredCount};
-ghost use Rattle.product.specs.Steps.{headBytes, Plain};
+ghost use Rattle.product.specs.Steps.{headBytes, Plain, scaleIn};
+use scene::Scale;
 use scene::Scene;
 use window::Channel;
 
@@ -73,16 +74,32 @@ impl Summary {
     }
 }
 
-// The scene of a count in a channel.
-fn scene_in(channel: Channel, count: u16) -> Scene
+// What the scenes of a channel share; of a flagged channel nothing is needed.
+fn scale_in(channel: Channel) -> Scale
     requires { ⌜ ChannelRange channel ⌝ }
+    ensures { λ r. ⌜ r ≡ scaleIn channel ⌝ }
+{
+    if channel.flag != 0 {
+        return Scale {
+            inverse: 0,
+            edge: 0,
+            top: 0,
+        };
+    }
+    let k = channel.constants;
+    scene::scale_of(k)
+}
+
+// The scene of a count in a channel.
+fn scene_in(channel: Channel, scale: Scale, count: u16) -> Scene
+    requires { ⌜ ChannelRange channel × (scale ≡ scaleIn channel) ⌝ }
     ensures { λ s. ⌜ s ≡ sceneIn channel count ⌝ }
 {
     if channel.flag != 0 {
         return Scene::Flagged;
     }
     let k = channel.constants;
-    scene::scene_of(k, count)
+    scene::scene_of(k, scale, count)
 }
 
 // ---- writing
@@ -118,11 +135,12 @@ fn write_channel(out: &mut [u8], channel: Channel, part: &[u8]) -> Summary
     requires { ⌜ (length (now out) ≡ 384) × (192 ≤ length (now part)) × ChannelRange channel ⌝ }
     ensures { λ r. ⌜ (r ≡ summaryOf channel (now (part .entry))) × (now (out .exit) ≡ channelScenes channel (now (part .entry))) ⌝ }
 {
+    let scale = scale_in(channel);
     let mut summary = Summary::none();
     for i in 0..96usize {
-        let s = scene_in(channel, fields::u16_at(part, 2 * i));
-        put_u32(out, 4 * i, scene::bits_of(s));
+        let s = scene_in(channel, scale, fields::u16_at(part, 2 * i));
         summary = summary.with_scene(s);
+        put_u32(out, 4 * i, scene::bits_of(s));
     }
     summary
 }

@@ -6,11 +6,11 @@ use mathlib.Core.List.{[], _∷_}
 use Prim.Native.Nat.{ℕ, _≤_}
 use native.Mathlib.Omega.{arith}
 use lib.IntN.{ℤ, pos, negsuc, natAbs, _-ℤ_, _*ℤ_}
-use lib.Signed.{_≤ℤ_, ltZ, clashℤ}
+use lib.Signed.{_≤ℤ_, ltZ}
 use lib.Ieee.{Float}
 use Rattle.integers.proofs.Ring.{_:-_, _:*_, ring, #, v0, v1, v2, v3}
 use Rattle.integers.proofs.Naturals.{at-most-natural}
-use Rattle.integers.proofs.Order.{ltZ-true, ltZ-false}
+use Rattle.integers.proofs.Order.{ltZ-false, test-fails, at-most-fails}
 use Rattle.scene.specs.declared.Scene.the-variants.{Kelvin, Outside, Guard}
 use Rattle.scene.specs.declared.Constants.{Constants}
 use Rattle.scene.specs.Temperature.{N, temperature}
@@ -67,13 +67,6 @@ pub record Passes (k : Constants) (count : ℕ) : Type 0 where
   pub not-above : (pos 4 *ℤ numerator k count) ≤ℤ (pos 5 *ℤ k .d)
   pub guard-low : pos 1 ≤ℤ temperatureOf k count
   pub guard-high : temperatureOf k count ≤ℤ pos 16777215
-
-test-fails : (b : Bool) → (b ≡ true → ⊥) → b ≡ false
-test-fails true f = absurd (f refl)
-test-fails false f = refl
-
-at-most-fails : {x y : ℤ} → x ≤ℤ y → ltZ y x ≡ false
-at-most-fails {x} {y} h = test-fails (ltZ y x) (λ t. clashℤ (ltZ-true t) h)
 
 delivers : (k : Constants) (count : ℕ) → Passes k count → sceneOf k count ≡ Kelvin (kelvin (natAbs (temperatureOf k count)))
 delivers k count p =

@@ -5,3 +5,4 @@ pub mod Formal
 pub mod SameFraction
 pub mod Distance
 pub mod Equations
+mod Bracket

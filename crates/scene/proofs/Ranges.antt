@@ -1,6 +1,6 @@
 -- The range of every number on the way to a scene. For a channel's constants N is within 51,136,960,500 at every count; where it is not
--- negative and 4N is at most 5D, X is within 81,920 and T within 1,832,984. The greatest signed number is N(Tw - Tc), below 10^17, and
--- the greatest unsigned one 2^27 N, below 2^63, so each fits.
+-- negative and 4N is at most 5D, X is within 81,920 and T within 1,832,984. The greatest signed number is N(Tw - Tc), below 10^17, so
+-- each fits.
 use mathlib.Core.List.{[], _∷_}
 use Prim.Native.Nat.{ℕ, _≤_}
 use lib.Dec.{lit<}
@@ -8,7 +8,7 @@ use lib.IntN.{ℤ, pos, _+ℤ_, _-ℤ_, _*ℤ_}
 use lib.Signed.{_≤ℤ_, ltZ-yes}
 use mir.Syntax.{w64}
 use mir.Val.{SFits}
-use Rattle.integers.specs.Rounding.{floor, r}
+use Rattle.integers.specs.Rounding.{r}
 use Rattle.integers.specs.Bounds.{Bounded}
 use Rattle.integers.proofs.Ring.{_:+_, _:-_, _:*_, opp, #, v0, v1, v2}
 use Rattle.integers.proofs.Certificate.{_:≤_, _:<_, hyp, nat, _⊕_, _⊗_, le-by}
@@ -16,11 +16,11 @@ use Rattle.integers.proofs.Bounds.{bounded-sum, bounded-difference, bounded-pro
 use Rattle.integers.proofs.Machine.{bounded-fits}
 use Rattle.integers.proofs.Order.{below-at-most, product-not-negative}
 use Rattle.integers.proofs.Naturals.{natural-not-negative}
-use Rattle.integers.proofs.Floor.{floor-bounded}
 use Rattle.integers.proofs.Nearest.{r-bounded}
 use Rattle.scene.specs.declared.Constants.{Constants}
-use Rattle.scene.specs.Temperature.{X, temperature}
+use Rattle.scene.specs.Temperature.{X}
 use Rattle.scene.specs.Scene.{ConstantsRange, numerator}
+use Rattle.scene.specs.Steps.{bendOf}
 
 -- ---- the bend
 module _ {x tnl : ℤ} (h : Bounded x (pos 81920)) (k : Bounded tnl (pos 8192)) where
@@ -43,7 +43,7 @@ module _ {x tnl : ℤ} (h : Bounded x (pos 81920)) (k : Bounded tnl (pos 8192)) 
   pub raised-bounded : Bounded (pos 4 *ℤ x *ℤ (pos 65536 -ℤ x) *ℤ tnl +ℤ pos 4503599627370496) (pos 4899423813369856)
   raised-bounded = bounded-sum x-tnl-bounded (number-bounded 4503599627370496)
 
-  pub bend-bounded : Bounded (r (pos 4 *ℤ x *ℤ (pos 65536 -ℤ x) *ℤ tnl) (pos 4294967296)) (pos 92160)
+  pub bend-bounded : Bounded (bendOf x tnl) (pos 92160)
   bend-bounded = r-bounded (pos 4 *ℤ x *ℤ (pos 65536 -ℤ x) *ℤ tnl) (ltZ-yes tt) x-tnl-bounded
 
 -- ---- the constants
@@ -62,6 +62,15 @@ module _ {k : Constants} (h : ConstantsRange k) where
 
   pub d-fits : SFits w64 (k .d)
   d-fits = bounded-fits d-bounded (lit< tt)
+
+  pub tc-fits : SFits w64 (k .tc)
+  tc-fits = bounded-fits tc-bounded (lit< tt)
+
+  pub rise-fits : SFits w64 (k .rise)
+  rise-fits = bounded-fits rise-bounded (lit< tt)
+
+  pub tnl-fits : SFits w64 (k .tnl)
+  tnl-fits = bounded-fits (h .tnl) (lit< tt)
 
   pub slope-bounded : Bounded (k .slope) (pos 780300)
   slope-bounded = bounded-not-negative (h .slope-low) (h .slope-high)
@@ -97,10 +106,6 @@ module _ {k : Constants} (h : ConstantsRange k) where
     pub n-fits : SFits w64 n
     n-fits = bounded-fits n-bounded (lit< tt)
 
-    -- N / D in 2^27ths, cut off
-    pub parts-bounded : Bounded (floor (pos 134217728 *ℤ n) (k .d)) (pos 167772160)
-    parts-bounded = floor-bounded (pos 134217728 *ℤ n) (h .d-low) (bounded-not-negative (le-by (n ∷ []) ((# 0 :≤ v0) ∷ []) (# 0) (# 134217728 :* v0) (hyp 0 ⊕ nat 134217728 ⊗ hyp 1) tt low) (le-by (n ∷ (k .d) ∷ []) ((# 4 :* v0 :≤ # 5 :* v1) ∷ []) (# 134217728 :* v0) (# 167772160 :* v1) (hyp 0 ⊕ nat 33554432 ⊗ hyp 1) tt high))
-
     pub x-bounded : Bounded (X n (k .d)) (pos 81920)
     x-bounded = r-bounded (pos 65536 *ℤ n) (h .d-low) (bounded-not-negative (le-by (n ∷ []) ((# 0 :≤ v0) ∷ []) (# 0) (# 65536 :* v0) (hyp 0 ⊕ nat 65536 ⊗ hyp 1) tt low) (le-by (n ∷ (k .d) ∷ []) ((# 4 :* v0 :≤ # 5 :* v1) ∷ []) (# 65536 :* v0) (# 81920 :* v1) (hyp 0 ⊕ nat 16384 ⊗ hyp 1) tt high))
 
@@ -110,9 +115,10 @@ module _ {k : Constants} (h : ConstantsRange k) where
     pub linear-bounded : Bounded (r (n *ℤ k .rise) (k .d)) (pos 1696890)
     linear-bounded = r-bounded (n *ℤ k .rise) (h .d-low) (bounded-not-negative (product-not-negative low rise-not-negative) (le-by (n ∷ (k .d) ∷ (k .rise) ∷ []) ((# 0 :< v1) ∷ (# 0 :≤ v2) ∷ (v2 :≤ # 1357512) ∷ (# 4 :* v0 :≤ # 5 :* v1) ∷ []) (v0 :* v2) (# 1696890 :* v1) (nat 4 ⊗ hyp 0 ⊕ nat 5 ⊗ hyp 3 ⊕ nat 5 ⊗ hyp 1 ⊗ hyp 3 ⊕ hyp 2 ⊗ hyp 4) tt (h .d-low) rise-not-negative (h .rise-high) high))
 
-    pub linear-sum-bounded : Bounded (k .tc +ℤ r (n *ℤ k .rise) (k .d)) (pos 1740824)
-    linear-sum-bounded = bounded-sum tc-bounded linear-bounded
+  -- ---- T of X and the linear part
+  module _ {x linear : ℤ} (of-x : Bounded x (pos 81920)) (of-linear : Bounded linear (pos 1696890)) where
+    pub linear-sum-bounded : Bounded (k .tc +ℤ linear) (pos 1740824)
+    linear-sum-bounded = bounded-sum tc-bounded of-linear
 
-    pub temperature-bounded : Bounded (temperature (k .tc) (k .rise) (k .tnl) (k .d) n) (pos 1832984)
-    unfolding temperature
-    temperature-bounded = bounded-sum linear-sum-bounded (bend-bounded x-bounded (h .tnl))
+    pub units-bounded : Bounded (k .tc +ℤ linear +ℤ bendOf x (k .tnl)) (pos 1832984)
+    units-bounded = bounded-sum linear-sum-bounded (bend-bounded of-x (h .tnl))

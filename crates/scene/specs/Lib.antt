@@ -1,3 +1,4 @@
 pub mod Temperature
 pub mod Scene
 pub mod Unrounded
+pub mod Steps

@@ -3,13 +3,14 @@ ghost use mathlib.Core.Path.{_≡_};
 ghost use mathlib.Core.Bool.{not};
 ghost use Prim.Native.Nat.{_≤_};
 ghost use lib.Dec.{T};
-ghost use lib.IntN.{pos, _-ℤ_, _*ℤ_};
-ghost use lib.Signed.{_<ℤ_, _≤ℤ_};
+ghost use lib.IntN.{pos, _+ℤ_, _*ℤ_};
+ghost use lib.Signed.{_≤ℤ_};
 ghost use lib.Ieee.{isNan};
-ghost use Rattle.integers.specs.Rounding.{floor, r};
 ghost use Rattle.integers.specs.Bounds.{Bounded};
 ghost use Rattle.scene.specs.Temperature.{temperature};
 ghost use Rattle.scene.specs.Scene.{kelvin, value, bits, sceneOf, ConstantsRange};
+ghost use Rattle.scene.specs.Steps.{scaleOf, Bracket, unsureOf, bendOf};
+use integers::floor_div;
 use integers::round_natural;
 use integers::round_small;
 
@@ -31,46 +32,82 @@ pub struct Constants {
     pub base: i64,
 }
 
-// N / D in 2^27ths, cut off: one division that gives X and, but for few counts, the linear part.
-fn parts_of(n: i64, d: i64) -> u64
-    requires { ⌜ (pos 0 ≤ℤ n) × (n ≤ℤ pos 63921200625) × (pos 0 <ℤ d) ⌝ }
-    ensures { λ p. ⌜ pos p ≡ floor (pos 134217728 *ℤ n) d ⌝ }
-{
-    134_217_728 * n as u64 / d as u64
+// What the scenes of a channel share, so that most need no division: 2^63 / D, cut off; the greatest rest of 2^32 that 33 times the rise
+// does not fill; and 5D / 4, cut off, the greatest N that is not outside.
+pub struct Scale {
+    pub inverse: u64,
+    pub edge: u32,
+    pub top: i64,
 }
 
-// r(N(Tw - Tc), D). N / D is from parts to parts + 1, in 2^27ths: where both ends are rounded alike, it needs no division of its own.
-fn linear_part(k: Constants, n: i64, parts: u64) -> i64
-    requires { ⌜ ConstantsRange k × (pos 0 ≤ℤ n) × ((pos 4 *ℤ n) ≤ℤ (pos 5 *ℤ k .d)) × (pos parts ≡ floor (pos 134217728 *ℤ n) (k .d)) ⌝ }
-    ensures { λ t. ⌜ t ≡ r (n *ℤ k .rise) (k .d) ⌝ }
+pub fn scale_of(k: Constants) -> Scale
+    requires { ⌜ ConstantsRange k ⌝ }
+    ensures { λ r. ⌜ r ≡ scaleOf k ⌝ }
 {
-    let rise = k.rise as u64;
-    let low = round_natural(parts * rise, 67_108_864);
-    let high = round_natural((parts + 1) * rise, 67_108_864);
-    if low == high {
-        return low as i64;
+    let inverse = 9_223_372_036_854_775_808 / k.d as u64;
+    let edge = 4_294_967_294 - 33 * k.rise as u32;
+    let top = floor_div(5 * k.d, 4);
+    Scale { inverse, edge, top }
+}
+
+// N / D lies from here to 33 more, in 2^32ths.
+fn low_end(k: Constants, inverse: u64, n: i64) -> u64
+    requires { ⌜ ConstantsRange k × (inverse ≡ scaleOf k .inverse) × (pos 0 ≤ℤ n) × ((pos 4 *ℤ n) ≤ℤ (pos 5 *ℤ k .d)) ⌝ }
+    ensures { λ w. ⌜ Bracket n (k .d) w ⌝ }
+{
+    n as u64 * inverse / 2_147_483_648
+}
+
+// Whether a half may lie in the bracket, of X or of the linear part. Both come with all but the least part of a half added, so that their
+// whole part is the nearest whole number, and their rest says how far the next half is.
+fn unsure(x: u64, linear: u64, edge: u32) -> bool
+    ensures { λ b. ⌜ b ≡ unsureOf x linear edge ⌝ }
+{
+    if 65_501 < x % 65_536 {
+        return true;
     }
-    round_small(n * k.rise, k.d)
+    edge < (linear % 4_294_967_296) as u32
 }
 
 // r(4X(65,536 - X) × TNL, 2^32). It is rounded 2^20 higher, where it is never negative: the division is then a shift.
 fn bend(x: i64, tnl: i64) -> i64
     requires { ⌜ Bounded x (pos 81920) × Bounded tnl (pos 8192) ⌝ }
-    ensures { λ t. ⌜ t ≡ r (pos 4 *ℤ x *ℤ (pos 65536 -ℤ x) *ℤ tnl) (pos 4294967296) ⌝ }
+    ensures { λ t. ⌜ t ≡ bendOf x tnl ⌝ }
 {
     let raised = 4 * x * (65_536 - x) * tnl + 4_503_599_627_370_496;
     round_natural(raised as u64, 2_147_483_648) as i64 - 1_048_576
 }
 
-// T, in units.
-fn units(k: Constants, n: i64) -> i64
+// T, in units, of X and the linear part. An i32 becomes an f32 by one instruction.
+fn units_of(k: Constants, x: i64, linear: i64) -> i32
+    requires { ⌜ ConstantsRange k × Bounded x (pos 81920) × Bounded linear (pos 1696890) ⌝ }
+    ensures { λ t. ⌜ t ≡ k .tc +ℤ linear +ℤ bendOf x (k .tnl) ⌝ }
+{
+    (k.tc + linear + bend(x, k.tnl)) as i32
+}
+
+// T by the divisions as they are written.
+fn divided_units(k: Constants, n: i64) -> i32
     requires { ⌜ ConstantsRange k × (pos 0 ≤ℤ n) × ((pos 4 *ℤ n) ≤ℤ (pos 5 *ℤ k .d)) ⌝ }
     ensures { λ t. ⌜ t ≡ temperature (k .tc) (k .rise) (k .tnl) (k .d) n ⌝ }
 {
-    let parts = parts_of(n, k.d);
-    let x = round_natural(parts, 1_024) as i64;
-    let linear = linear_part(k, n, parts);
-    k.tc + linear + bend(x, k.tnl)
+    let x = round_small(65_536 * n, k.d);
+    let linear = round_small(n * k.rise, k.d);
+    units_of(k, x, linear)
+}
+
+// T by a product in place of each division, where no half lies in the bracket.
+fn units(k: Constants, scale: Scale, n: i64) -> i32
+    requires { ⌜ ConstantsRange k × (scale ≡ scaleOf k) × (pos 0 ≤ℤ n) × ((pos 4 *ℤ n) ≤ℤ (pos 5 *ℤ k .d)) ⌝ }
+    ensures { λ t. ⌜ t ≡ temperature (k .tc) (k .rise) (k .tnl) (k .d) n ⌝ }
+{
+    let low = low_end(k, scale.inverse, n);
+    let x = low + 32_767;
+    let linear = low * k.rise as u64 + 2_147_483_647;
+    if unsure(x, linear, scale.edge) {
+        return divided_units(k, n);
+    }
+    units_of(k, (x / 65_536) as i64, (linear / 4_294_967_296) as i64)
 }
 
 // t / 4096: a whole number below 2^24 is cast without loss, and the product with a power of two is exact.
@@ -82,18 +119,18 @@ fn kelvin_of(t: u32) -> f32
 }
 
 // The scene of a count in a channel with flag 0.
-pub fn scene_of(k: Constants, count: u16) -> Scene
-    requires { ⌜ ConstantsRange k ⌝ }
+pub fn scene_of(k: Constants, scale: Scale, count: u16) -> Scene
+    requires { ⌜ ConstantsRange k × (scale ≡ scaleOf k) ⌝ }
     ensures { λ s. ⌜ s ≡ sceneOf k count ⌝ }
 {
     let n = k.slope * count as i64 - k.base;
     if n < 0 {
         return Scene::Outside;
     }
-    if 5 * k.d < 4 * n {
+    if scale.top < n {
         return Scene::Outside;
     }
-    let t = units(k, n);
+    let t = units(k, scale, n);
     if t < 1 {
         return Scene::Guard;
     }

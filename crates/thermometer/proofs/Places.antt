@@ -25,8 +25,8 @@ place-at-most {t} range = omega (arith, order)
 pub place-counted : {t : ℤ} → InRange t → t +ℤ pos 245760 ≡ pos (placeOf t)
 place-counted {t} range = parts-equal (t +ℤ pos 245760) (pos (placeOf t)) (omega (arith, order, sum-parts t (pos 245760)))
 
-pub place-inside : {k : ℕ} → InRange (unitsAt k) → k ≤ 491520
-place-inside {k} range = omega (arith, order, difference-parts (pos k) (pos 245760))
+pub place-before-last : (k : ℕ) → unitsAt k ≤ℤ pos 245759 → k + 1 ≤ 491520
+place-before-last k h = omega (arith, order, difference-parts (pos k) (pos 245760))
 
 -- numbers are ordered as their places
 pub units-order : {i j : ℕ} → i ≤ j → unitsAt i ≤ℤ unitsAt j

@@ -1,5 +1,5 @@
--- The guess is in the range, and each number on the way to it fits an i64; whatever the guess, the two ends that F confirms enclose the
--- answer.
+-- The guess is in the range and below the highest t, and each number on the way to it fits an i64; whatever the guess, the two ends that
+-- F confirms enclose the answer.
 use mathlib.Core.Path.{_≡_, refl}
 use mathlib.Core.List.{[], _∷_}
 use mathlib.Core.Bool.{Bool, true, false, cond}
@@ -20,14 +20,14 @@ use Rattle.integers.proofs.Order.{at-most-trans, leZ-true, ltZ-true, ltZ-false}
 use Rattle.integers.proofs.Certificate.{_:≤_, _:<_, hyp, _⊕_, _⊗_, le-by, lt-by}
 use Rattle.integers.proofs.Bounds.{bounded-sum, bounded-difference, bounded-product, bounded-weaker, number-bounded}
 use Rattle.integers.proofs.Floor.{floor-bounded}
-use Rattle.thermometer.specs.Rule.{one, F, lowest, highest, unitsAt, InRange}
+use Rattle.thermometer.specs.Rule.{one, F, lowest, unitsAt, InRange}
 use Rattle.thermometer.specs.Reading.{Admissible}
 use Rattle.thermometer.specs.Search.{heldBetween, onLine, onChord, nearbyUnits, reachedAt, pastAt, AllReachedBefore, Encloses}
 use Rattle.thermometer.proofs.Bounds.{fits, t-bounded, F-bounded}
 use Rattle.thermometer.proofs.Rises.{rises-strictly}
 use Rattle.thermometer.proofs.Answer.{reached-before}
 
--- ---- the guess is in the range
+-- ---- where the guess is
 abbrev Inside : (low high t : ℤ) → Type 0
 Inside low high t = (low ≤ℤ t) × (t ≤ℤ high)
 
@@ -60,20 +60,22 @@ module _ (alpha : ℕ) (m : ℤ) where
       record { low = omega (arith, order, sum-parts (onLine alpha m) (pos 2048)); high = omega (arith, order, sum-parts (onLine alpha m) (pos 2048)) }
 
 module _ (alpha delta beta : ℕ) (m : ℤ) where
-  pub chord-in-range : (t : ℤ) → InRange (onChord alpha delta beta m t)
+  chord-inside : (t : ℤ) → Inside lowest (pos 245759) (onChord alpha delta beta m t)
   unfolding onChord
-  chord-in-range t =
+  chord-inside t =
       let f = F alpha delta beta t in
-      let h = held-inside lowest highest (t +ℤ floor ((m -ℤ f) *ℤ pos 2048) (F alpha delta beta (t +ℤ pos 2048) -ℤ f)) (leZ-yes tt) in
-      record { low = h .0; high = h .1 }
+      held-inside lowest (pos 245759) (t +ℤ floor ((m -ℤ f) *ℤ pos 2048) (F alpha delta beta (t +ℤ pos 2048) -ℤ f)) (leZ-yes tt)
 
-  highest-or : (b : Bool) {t : ℤ} → InRange t → InRange (cond b highest t)
-  highest-or true range = record { low = leZ-yes tt; high = leZ-yes tt }
-  highest-or false range = range
+  pub chord-in-range : (t : ℤ) → InRange (onChord alpha delta beta m t)
+  chord-in-range t = let h = chord-inside t in record { low = h .0; high = at-most-trans (h .1) (leZ-yes tt) }
 
-  pub nearby-in-range : InRange (nearbyUnits alpha delta beta m)
+  last-or : (b : Bool) {t : ℤ} → t ≤ℤ pos 245759 → cond b (pos 245759) t ≤ℤ pos 245759
+  last-or true h = leZ-yes tt
+  last-or false h = h
+
+  pub nearby-before-highest : nearbyUnits alpha delta beta m ≤ℤ pos 245759
   unfolding nearbyUnits
-  nearby-in-range = highest-or (ltZ (pos 22000000) m) (chord-in-range (onLine alpha m))
+  nearby-before-highest = last-or (ltZ (pos 22000000) m) (chord-inside (onLine alpha m) .1)
 
 -- ---- each number fits an i64
 -- a floor is no larger than what is divided
@@ -141,10 +143,17 @@ module _ {alpha delta beta : ℕ} (admissible : Admissible alpha delta beta) (m 
   end-or-after near true e = (omega arith, all-places)
   end-or-after near false e = after-or-end (near + 2) (ltZ m (F alpha delta beta (unitsAt (near + 2)))) refl (omega (arith, ltb-false 491518 near e))
 
-  pub ends-enclose : F alpha delta beta lowest ≤ℤ m → (near : ℕ) → near ≤ 491520
-      → Encloses alpha delta beta m (reachedAt alpha delta beta m near) (pastAt alpha delta beta m near)
-  unfolding reachedAt pastAt
-  ends-enclose low near inside =
-      let reached = near-or-first near (leZ (F alpha delta beta (unitsAt near)) m) refl inside low in
-      let past = end-or-after near (ltb 491518 near) refl in
-      record { reached-inside = reached .0; is-reached = reached .1; past-inside = past .0; all-before = past .1 }
+  -- the place after `near` is one end, whichever it is
+  module _ (near : ℕ) (inside : near + 1 ≤ 491520) where
+    pub enclosed-after : F alpha delta beta (unitsAt (near + 1)) ≤ℤ m → Encloses alpha delta beta m (near + 1) (pastAt alpha delta beta m near)
+    unfolding pastAt
+    enclosed-after reached =
+        let past = end-or-after near (ltb 491518 near) refl in
+        record { reached-inside = inside; is-reached = reached; past-inside = past .0; all-before = past .1 }
+
+    pub enclosed-before : F alpha delta beta lowest ≤ℤ m → m <ℤ F alpha delta beta (unitsAt (near + 1))
+        → Encloses alpha delta beta m (reachedAt alpha delta beta m near) (near + 1)
+    unfolding reachedAt
+    enclosed-before low past =
+        let reached = near-or-first near (leZ (F alpha delta beta (unitsAt near)) m) refl (omega arith) low in
+        record { reached-inside = reached .0; is-reached = reached .1; past-inside = omega arith; all-before = reached-before admissible (near + 1) inside past }

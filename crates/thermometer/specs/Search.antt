@@ -6,7 +6,7 @@ use lib.Dec.{ltb}
 use lib.IntN.{ℤ, pos, _+ℤ_, _-ℤ_, _*ℤ_}
 use lib.Signed.{_≤ℤ_, leZ, ltZ}
 use Rattle.integers.specs.Rounding.{floor}
-use Rattle.thermometer.specs.Rule.{one, F, lowest, highest, unitsAt}
+use Rattle.thermometer.specs.Rule.{one, F, lowest, unitsAt}
 
 -- ---- the guess: one step of the secant method
 -- t, or the end of low..high that it is beyond
@@ -17,17 +17,17 @@ heldBetween low high t = cond (ltZ t low) low (cond (ltZ high t) high t)
 unfoldable pub onLine : ℕ → ℤ → ℤ
 onLine alpha m = heldBetween lowest (pos 243712) (floor ((m -ℤ one) *ℤ pos 240000) (pos alpha))
 
--- where the chord of F from t to t + 2,048 comes to m
+-- where the chord of F from t to t + 2,048 comes to m, below the highest t
 unfoldable pub onChord : (alpha delta beta : ℕ) → (m t : ℤ) → ℤ
 onChord alpha delta beta m t =
     let from = F alpha delta beta t in
-    heldBetween lowest highest (t +ℤ floor ((m -ℤ from) *ℤ pos 2048) (F alpha delta beta (t +ℤ pos 2048) -ℤ from))
+    heldBetween lowest (pos 245759) (t +ℤ floor ((m -ℤ from) *ℤ pos 2048) (F alpha delta beta (t +ℤ pos 2048) -ℤ from))
 
 -- the guess; F is never above 22,000,000
 unfoldable pub nearbyUnits : (alpha delta beta : ℕ) → ℤ → ℤ
-nearbyUnits alpha delta beta m = cond (ltZ (pos 22000000) m) highest (onChord alpha delta beta m (onLine alpha m))
+nearbyUnits alpha delta beta m = cond (ltZ (pos 22000000) m) (pos 245759) (onChord alpha delta beta m (onLine alpha m))
 
--- ---- the ends around place `near`, which is nearly always that of the answer or one before it
+-- ---- an end before or after place `near`, which is nearly always that of the answer or one before it
 unfoldable pub reachedAt : (alpha delta beta : ℕ) → ℤ → ℕ → ℕ
 reachedAt alpha delta beta m near = cond (leZ (F alpha delta beta (unitsAt near)) m) near 0
 

@@ -69,16 +69,16 @@ fn on_chord(alpha: u32, delta: u32, beta: u32, m: i64, t: i64) -> i64
     let from = ratio(alpha, delta, beta, t);
     let to = ratio(alpha, delta, beta, t + 2_048);
     let u = t + floor_div((m - from) * 2_048, to - from);
-    held_between(-245_760, 245_760, u)
+    held_between(-245_760, 245_759, u)
 }
 
-// A place near that of the answer, by one step of the secant method: F is nearly a line. No F is above 22,000,000.
+// A place before the last and near that of the answer, by one step of the secant method: F is nearly a line. No F is above 22,000,000.
 fn nearby(alpha: u32, delta: u32, beta: u32, m: i64) -> u64
     requires { ⌜ Admissible alpha delta beta × (F alpha delta beta lowest ≤ℤ m) ⌝ }
     ensures { λ k. ⌜ unitsAt k ≡ nearbyUnits alpha delta beta m ⌝ }
 {
     if 22_000_000 < m {
-        return 491_520;
+        return 491_519;
     }
     let t = on_line(alpha, m);
     let u = on_chord(alpha, delta, beta, m, t);
@@ -128,15 +128,18 @@ fn greatest_between(alpha: u32, delta: u32, beta: u32, m: i64, first: u64, end: 
     reached as i64 - 245_760
 }
 
-// The greatest t with F(t) at most m. The halving starts around a guess, from ends that F confirms.
+// The greatest t with F(t) at most m. The place after the guess is the lower end of the halving or the upper one, as F says.
 fn greatest_units(alpha: u32, delta: u32, beta: u32, m: i64) -> i64
     requires { ⌜ Admissible alpha delta beta × (F alpha delta beta lowest ≤ℤ m) ⌝ }
     ensures { λ t. ⌜ t ≡ answer alpha delta beta m ⌝ }
 {
     let near = nearby(alpha, delta, beta, m);
+    if ratio_at(alpha, delta, beta, near + 1) <= m {
+        let past = past_at(alpha, delta, beta, m, near);
+        return greatest_between(alpha, delta, beta, m, near + 1, past);
+    }
     let reached = reached_at(alpha, delta, beta, m, near);
-    let past = past_at(alpha, delta, beta, m, near);
-    greatest_between(alpha, delta, beta, m, reached, past)
+    greatest_between(alpha, delta, beta, m, reached, near + 1)
 }
 
 // M, 2^24 times the measured ratio.

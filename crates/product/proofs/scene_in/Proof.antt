@@ -2,6 +2,7 @@
 use mathlib.Core.Path.{_∙_}
 use borrow.Author.Tests.{eq-eqb, ne-eqb}
 use Rattle.product.specs.Scenes.{sceneIn}
+use Rattle.product.specs.Steps.{scaleIn}
 use Rattle.product.proofs.scene_in.Statement.{statement}
 use Rattle.product.proofs.scene_in.Tie as tie
 
@@ -10,7 +11,10 @@ unfolding sceneIn
 returns c = simp (ne-eqb _ _ (c .if1 .taken))
 
 scene-of-requires : tie.Need-scene-of-requires
-scene-of-requires c κs = c .before .before .before .pre .constants (c .before .if1 .left)
+unfolding scaleIn
+scene-of-requires c κs =
+    let s = c .before .before .before in
+    (s .pre .0 .constants (c .before .if1 .left), s .pre .1 ∙ simp (eq-eqb _ _ (c .before .if1 .left)))
 
 returns-2 : tie.Need-returns-2
 unfolding sceneIn

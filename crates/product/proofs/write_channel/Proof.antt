@@ -28,21 +28,24 @@ abbrev bytesAt : Channel → List ℕ → ℕ → List ℕ
 bytesAt channel part i = u32Bytes (bits (sceneAt channel part i))
 
 abbrev Inv-loop : tie.InvT-loop
-Inv-loop out₀ channel part summary₀ i₀ out summary i =
+Inv-loop out₀ channel part scale summary₀ i₀ out summary i =
     (i ≤ 96)
     × (length out ≡ 384)
     × (summary ≡ summaryTo (sceneAt channel part) i)
     × (out ≡ filled (bytesAt channel part) 4 i out₀)
 
 abbrev μ-loop : tie.MeasureT-loop
-μ-loop out₀ channel part summary₀ i₀ out summary i = 96 - i
+μ-loop out₀ channel part scale summary₀ i₀ out summary i = 96 - i
+
+scale-in-requires : tie.Need-scale-in-requires Inv-loop μ-loop
+scale-in-requires c κs = search needs
 
 none-requires : tie.Need-none-requires Inv-loop μ-loop
 none-requires c κs = tt
 
 loop-holds : tie.Need-loop-holds Inv-loop μ-loop
 loop-holds c =
-    let a = c .before .before .before .args in (
+    let a = c .before .before .before .before .args in (
       search needs,
       search needs,
       c .none .ensures ∙ sym (summary-to-none (sceneAt (a .channel) (now (a .part)))),
@@ -56,14 +59,14 @@ u16-at-requires : tie.Need-u16-at-requires Inv-loop μ-loop
 u16-at-requires c κs = search needs
 
 scene-in-requires : tie.Need-scene-in-requires Inv-loop μ-loop
-scene-in-requires c κs = search needs
+scene-in-requires c κs = let k = c .before .before .before .before in (k .before .before .before .pre .2, k .scale-in .ensures)
 
 mul-put-u32 : tie.Need-mul-put-u32 Inv-loop μ-loop
 mul-put-u32 c = omega arith
 
 bits-of-requires : tie.Need-bits-of-requires Inv-loop μ-loop
 bits-of-requires c κs =
-    let s = c .before in
+    let s = c .before .before in
     subst (λ (x : Scene). T (not (isNan (value x)))) (sym (s .scene-in .ensures)) (scene-in-not-nan _ (s .before .u16-at .result))
 
 put-u32-requires : tie.Need-put-u32-requires Inv-loop μ-loop
@@ -71,8 +74,8 @@ put-u32-requires c κs = search needs
 
 with-scene-requires : tie.Need-with-scene-requires Inv-loop μ-loop
 with-scene-requires c κs =
-    let l = c .before .before .before .before .before .before .before .before in
-    let a = l .before .before .before .before .args in
+    let l = c .before .before .before in
+    let a = l .before .before .before .before .before .args in
     let small : l .loop .summary .count ≤ l .loop .i = rw (l .loop .inv .2) (count-at-most (sceneAt (a .channel) (now (a .part))) (l .loop .i)) in
     omega (arith, l)
 
@@ -84,10 +87,11 @@ loop-less c = omega arith
 
 loop-again : tie.Need-loop-again Inv-loop μ-loop
 loop-again c =
-    let w = c .before .before .before in
-    let s = w .before .before .before in
+    let w = c .before .before in
+    let t = w .before .before .before in
+    let s = t .before in
     let l = s .before .before .before in
-    let a = l .before .before .before .before .args in
+    let a = l .before .before .before .before .before .args in
     let scenes = sceneAt (a .channel) (now (a .part)) in
     let bytes = bytesAt (a .channel) (now (a .part)) in
     let i = l .loop .i in
@@ -95,7 +99,7 @@ loop-again c =
     let place : 4 * i ≡ i * 4 = omega arith in (
       omega arith,
       w .put-u32 .kept .0 ∙ l .loop .inv .1,
-      c .with-scene .ensures
+      t .with-scene .ensures
           ∙ ap (withScene (l .loop .summary)) scene
           ∙ ap (λ (s : Summary). withScene s (scenes i)) (l .loop .inv .2)
           ∙ sym (summary-to-more scenes i),
@@ -113,7 +117,7 @@ returns : tie.Need-returns Inv-loop μ-loop
 unfolding channelScenes
 returns c =
     let l = c .before in
-    let a = l .before .before .before .before .args in
+    let a = l .before .before .before .before .before .args in
     let scenes = sceneAt (a .channel) (now (a .part)) in
     let bytes = bytesAt (a .channel) (now (a .part)) in
     let last : l .loop .i ≡ 96 = omega arith in (
@@ -129,15 +133,16 @@ write-channel-spec =
     (tie.spec
     Inv-loop
     μ-loop
+    scale-in-requires
     none-requires
     loop-holds
     mul-u16-at
     u16-at-requires
     scene-in-requires
+    with-scene-requires
     mul-put-u32
     bits-of-requires
     put-u32-requires
-    with-scene-requires
     add-i
     loop-less
     loop-again

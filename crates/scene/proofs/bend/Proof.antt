@@ -14,6 +14,7 @@ use Rattle.integers.proofs.Ring.{_:+_, _:-_, ring, v0, v1}
 use Rattle.integers.proofs.Bounds.{bounded-sum, bounded-size, number-bounded}
 use Rattle.integers.proofs.Machine.{bounded-fits, reads-back, natural-reads-back, unsigned-fits}
 use Rattle.integers.proofs.Nearest.{r-shifted}
+use Rattle.scene.specs.Steps.{bendOf}
 use Rattle.scene.proofs.Ranges.{four-x-bounded, rest-of-x-bounded, x-product-bounded, x-tnl-bounded, raised-not-negative, raised-bounded, bend-bounded}
 use Rattle.scene.proofs.bend.Statement.{statement}
 use Rattle.scene.proofs.bend.Tie as tie
@@ -40,10 +41,10 @@ module _ {x tnl : ℤ} (h : Bounded x (pos 81920) × Bounded tnl (pos 8192)) whe
   raised-fits : SFits w64 (pos 4 *ℤ x *ℤ (pos 65536 -ℤ x) *ℤ tnl +ℤ pos 4503599627370496)
   raised-fits = bounded-fits (raised-bounded (h .0) (h .1)) (lit< tt)
 
-  bend-fits : SFits w64 (r (pos 4 *ℤ x *ℤ (pos 65536 -ℤ x) *ℤ tnl) (pos 4294967296))
+  bend-fits : SFits w64 (bendOf x tnl)
   bend-fits = bounded-fits (bend-bounded (h .0) (h .1)) (lit< tt)
 
-  raised-bend-fits : SFits w64 (r (pos 4 *ℤ x *ℤ (pos 65536 -ℤ x) *ℤ tnl) (pos 4294967296) +ℤ pos 1048576)
+  raised-bend-fits : SFits w64 (bendOf x tnl +ℤ pos 1048576)
   raised-bend-fits = bounded-fits (bounded-sum (bend-bounded (h .0) (h .1)) (number-bounded 1048576)) (lit< tt)
 
 mul-raised : tie.Need-mul-raised

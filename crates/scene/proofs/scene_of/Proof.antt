@@ -1,6 +1,6 @@
 -- `scene::scene_of` meets its contract. N and T are read back as themselves, so the four tests are those of the definition, and each
 -- branch gives the scene of its outcome; the guard makes T a natural number below 2^24. Assumes nothing.
-use mathlib.Core.Path.{_≡_, sym}
+use mathlib.Core.Path.{_≡_, sym, ap}
 use mathlib.Core.Bool.{Bool, true, false}
 use Prim.Native.Nat.{ℕ, _≤_}
 use native.Mathlib.Nat.{lt-of-le-of-lt}
@@ -8,15 +8,17 @@ use native.Mathlib.Omega.{arith}
 use lib.Dec.{lit<}
 use lib.IntN.{pos, _-ℤ_, _*ℤ_}
 use lib.Signed.{ltZ, yes-nonNeg}
-use mir.Syntax.{w64}
+use mir.Syntax.{w32, w64}
 use mir.Val.{SFits, toZ, ofZ}
 use borrow.Author.Needs.{needs}
+use Rattle.integers.specs.Rounding.{floor}
 use Rattle.integers.proofs.Naturals.{not-negative-is}
 use Rattle.integers.proofs.Order.{ltZ-false}
-use Rattle.integers.proofs.Machine.{bounded-fits, reads-back, result-reads-back, natural-reads-back}
+use Rattle.integers.proofs.Machine.{bounded-fits, reads-back, natural-reads-back, floor-fits}
+use Rattle.scene.proofs.Bracket.{top-test}
 use Rattle.scene.specs.declared.Constants.{Constants}
 use Rattle.scene.specs.Scene.{ConstantsRange, numerator}
-use Rattle.scene.proofs.Ranges.{d-fits, slope-bounded, base-bounded, slope-count-bounded, numerator-bounded, four-n-bounded, five-d-bounded}
+use Rattle.scene.proofs.Ranges.{slope-bounded, base-bounded, slope-count-bounded, numerator-bounded, five-d-bounded}
 use Rattle.scene.proofs.Delivered.{temperatureOf, scene-negative, scene-above, scene-guard-low, scene-guard-high, scene-kelvin, WithinGuard, within-guard}
 use Rattle.scene.proofs.scene_of.Statement.{statement}
 use Rattle.scene.proofs.scene_of.Tie as tie
@@ -34,11 +36,8 @@ module _ {k : Constants} {count : ℕ} (h : ConstantsRange k) (c : count ≤ 655
   n-fits : SFits w64 (numerator k count)
   n-fits = bounded-fits (numerator-bounded h c) (lit< tt)
 
-  four-n-fits : SFits w64 (pos 4 *ℤ numerator k count)
-  four-n-fits = bounded-fits (four-n-bounded h c) (lit< tt)
-
-  five-d-fits : SFits w64 (pos 5 *ℤ k .d)
-  five-d-fits = bounded-fits (five-d-bounded h) (lit< tt)
+  top-fits : SFits w64 (floor (pos 5 *ℤ k .d) (pos 4))
+  top-fits = floor-fits (pos 4) (bounded-fits (five-d-bounded h) (lit< tt))
 
 count-high : (s : tie.Start) → s .args .count ≤ 65535
 count-high s = omega arith
@@ -47,39 +46,30 @@ cast-n : tie.Need-cast-n
 cast-n c = search needs
 
 mul-n : tie.Need-mul-n
-mul-n c = let s = c .before .before in rw (slope-count-is (s .pre) (count-high s)) (slope-count-fits (s .pre) (count-high s))
+mul-n c = let s = c .before .before in rw (slope-count-is (s .pre .0) (count-high s)) (slope-count-fits (s .pre .0) (count-high s))
 
 sub-n : tie.Need-sub-n
-sub-n c = let s = c .before .before .before .before in rw (n-is (s .pre) (count-high s)) (n-fits (s .pre) (count-high s))
+sub-n c = let s = c .before .before .before .before in rw (n-is (s .pre .0) (count-high s)) (n-fits (s .pre .0) (count-high s))
 
 returns : tie.Need-returns
 returns c =
     let s = c .before .before .before .before .before in
-    scene-negative (s .args .k) (s .args .count) (rw (n-is (s .pre) (count-high s), reads-back (n-fits (s .pre) (count-high s))) at (c .if1 .taken))
+    scene-negative (s .args .k) (s .args .count) (rw (n-is (s .pre .0) (count-high s), reads-back (n-fits (s .pre .0) (count-high s))) at (c .if1 .taken))
 
 n-not-negative : (c : tie.Else1) → ltZ (numerator (c .before .before .before .before .before .args .k) (c .before .before .before .before .before .args .count)) (pos 0) ≡ false
 n-not-negative c =
     let s = c .before .before .before .before .before in
-    rw (n-is (s .pre) (count-high s), reads-back (n-fits (s .pre) (count-high s))) at (c .if1 .left)
-
-mul-if2 : tie.Need-mul-if2
-mul-if2 c =
-    let s = c .before .before .before .before .before .before .before in
-    rw (reads-back (d-fits (s .pre))) (five-d-fits (s .pre) (count-high s))
-
-mul-if2-2 : tie.Need-mul-if2-2
-mul-if2-2 c =
-    let s = c .before .before .before .before .before .before .before in
-    rw (n-is (s .pre) (count-high s), reads-back (n-fits (s .pre) (count-high s))) (four-n-fits (s .pre) (count-high s))
+    rw (n-is (s .pre .0) (count-high s), reads-back (n-fits (s .pre .0) (count-high s))) at (c .if1 .left)
 
 -- what the machine's second test says
 n-test : (s : tie.Start) (b : Bool)
-    → ltZ (toZ w64 (ofZ w64 (pos 5 *ℤ toZ w64 (ofZ w64 (s .args .k .d))))) (toZ w64 (ofZ w64 (pos 4 *ℤ toZ w64 (ofZ w64 (toZ w64 (ofZ w64 (toZ w64 (ofZ w64 (s .args .k .slope)) *ℤ toZ w64 (s .args .count))) -ℤ toZ w64 (ofZ w64 (s .args .k .base))))))) ≡ b
+    → ltZ (toZ w64 (ofZ w64 (s .args .scale .top))) (toZ w64 (ofZ w64 (toZ w64 (ofZ w64 (toZ w64 (ofZ w64 (s .args .k .slope)) *ℤ toZ w64 (s .args .count))) -ℤ toZ w64 (ofZ w64 (s .args .k .base))))) ≡ b
     → ltZ (pos 5 *ℤ s .args .k .d) (pos 4 *ℤ numerator (s .args .k) (s .args .count)) ≡ b
 n-test s b e =
-    let h = s .pre in
+    let h = s .pre .0 in
     let c = count-high s in
-    rw (reads-back (d-fits h), reads-back (five-d-fits h c), n-is h c, reads-back (n-fits h c), reads-back (four-n-fits h c)) at e
+    let top : s .args .scale .top ≡ floor (pos 5 *ℤ s .args .k .d) (pos 4) = ap (λ s. s .top) (s .pre .1) in
+    top-test (s .args .k .d) (numerator (s .args .k) (s .args .count)) b (rw (top, reads-back (top-fits h c), n-is h c, reads-back (n-fits h c)) at e)
 
 returns-2 : tie.Need-returns-2
 returns-2 c =
@@ -98,35 +88,38 @@ module _ (c : tie.Else2) where
 
 units-requires : tie.Need-units-requires
 units-requires c κs =
-    let h = start c .pre in
+    let h = start c .pre .0 in
     let m = count-high (start c) in
-    rw (n-is h m, reads-back (n-fits h m)) (h, ltZ-false (n-low c), ltZ-false (n-high c))
+    rw (n-is h m, reads-back (n-fits h m)) (h, start c .pre .1, ltZ-false (n-low c), ltZ-false (n-high c))
 
 t-is : (c : tie.After-units) → c .units .result ≡ temperatureOf (start (c .before) .args .k) (start (c .before) .args .count)
 t-is c =
-    let h = start (c .before) .pre in
+    let h = start (c .before) .pre .0 in
     let m = count-high (start (c .before)) in
     rw (n-is h m, reads-back (n-fits h m)) at (c .units .ensures)
+
+t-reads-back : (c : tie.After-units) → toZ w32 (ofZ w32 (c .units .result)) ≡ c .units .result
+t-reads-back c = reads-back (record { sfits = c .units .ok })
 
 returns-3 : tie.Need-returns-3
 returns-3 c =
     let u = c .before in
     let s = start (u .before) in
-    scene-guard-low (s .args .k) (s .args .count) (n-low (u .before)) (n-high (u .before)) (rw (result-reads-back (u .units .result) (u .units .ok), t-is u) at (c .if3 .taken))
+    scene-guard-low (s .args .k) (s .args .count) (n-low (u .before)) (n-high (u .before)) (rw (t-reads-back u, t-is u) at (c .if3 .taken))
 
 t-low : (c : tie.Else3) → ltZ (temperatureOf (start (c .before .before) .args .k) (start (c .before .before) .args .count)) (pos 1) ≡ false
-t-low c = let u = c .before in rw (result-reads-back (u .units .result) (u .units .ok), t-is u) at (c .if3 .left)
+t-low c = let u = c .before in rw (t-reads-back u, t-is u) at (c .if3 .left)
 
 returns-4 : tie.Need-returns-4
 returns-4 c =
     let u = c .before .before in
     let s = start (u .before) in
     scene-guard-high (s .args .k) (s .args .count) (n-low (u .before)) (n-high (u .before)) (t-low (c .before))
-    (rw (result-reads-back (u .units .result) (u .units .ok), t-is u) at (c .if4 .taken))
+    (rw (t-reads-back u, t-is u) at (c .if4 .taken))
 
 module _ (c : tie.Else4) where
   t-high : ltZ (pos 16777215) (temperatureOf (start (c .before .before .before) .args .k) (start (c .before .before .before) .args .count)) ≡ false
-  t-high = let u = c .before .before in rw (result-reads-back (u .units .result) (u .units .ok), t-is u) at (c .if4 .left)
+  t-high = let u = c .before .before in rw (t-reads-back u, t-is u) at (c .if4 .left)
 
   t-within : WithinGuard (temperatureOf (start (c .before .before .before) .args .k) (start (c .before .before .before) .args .count))
   t-within = within-guard (ltZ-false (t-low (c .before))) (ltZ-false t-high)
@@ -134,19 +127,19 @@ module _ (c : tie.Else4) where
 cast-kelvin-of : tie.Need-cast-kelvin-of
 cast-kelvin-of c =
     let u = c .before .before in
-    rw (result-reads-back (u .units .result) (u .units .ok), t-is u) (yes-nonNeg (not-negative-is _ (sym (t-within c .same))), record { fits = lt-of-le-of-lt (t-within c .high) (lit< tt) })
+    rw (t-reads-back u, t-is u) (yes-nonNeg (not-negative-is _ (sym (t-within c .same))), record { fits = lt-of-le-of-lt (t-within c .high) (lit< tt) })
 
 kelvin-of-requires : tie.Need-kelvin-of-requires
 kelvin-of-requires c κs =
     let u = c .before .before in
-    rw (result-reads-back (u .units .result) (u .units .ok), t-is u) (t-within c .low, t-within c .high)
+    rw (t-reads-back u, t-is u) (t-within c .low, t-within c .high)
 
 returns-5 : tie.Need-returns-5
 returns-5 c =
     let f = c .before in
     let u = f .before .before in
     let s = start (u .before) in
-    rw (c .kelvin-of .ensures, result-reads-back (u .units .result) (u .units .ok), t-is u)
+    rw (c .kelvin-of .ensures, t-reads-back u, t-is u)
     (scene-kelvin (s .args .k) (s .args .count) (n-low (u .before)) (n-high (u .before)) (t-low (f .before)) (t-high f))
 
 pub scene-of-spec : {M : Type 1} → statement M
@@ -157,8 +150,6 @@ scene-of-spec =
     mul-n
     sub-n
     returns
-    mul-if2
-    mul-if2-2
     returns-2
     units-requires
     returns-3

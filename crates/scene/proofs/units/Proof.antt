@@ -1,126 +1,147 @@
--- `scene::units` meets its contract. X is the rounding of the counts' fraction in 2^27ths, the linear part and the bend are as the
--- definition has them, and every number on the way is in the range that Ranges has for it, so it fits. Assumes nothing.
-use mathlib.Core.Path.{_≡_, sym, _∙_, ap, subst}
-use mathlib.Core.List.{[], _∷_}
-use native.Mathlib.Nat.{le-trans}
-use lib.Dec.{lit<, lit≤}
-use lib.IntN.{ℤ, pos, _+ℤ_, _-ℤ_, _*ℤ_}
-use lib.Signed.{_≤ℤ_, ltZ-yes}
+-- `scene::units` meets its contract: where no half lies in the bracket around N / D, X and the linear part are the nearest whole numbers,
+-- and so those of the definition; else the divisions answer. Assumes nothing.
+use mathlib.Core.Path.{_≡_, sym, _∙_, ap}
+use Prim.Native.Nat.{ℕ, _+_, _*_, _/_, _≤_}
+use native.Mathlib.Nat.{lt-of-le-of-lt, mul-le-mul}
+use native.Mathlib.Omega.{arith}
+use lib.Dec.{lit<}
+use lib.IntN.{ℤ, pos, natAbs, _*ℤ_}
+use lib.Signed.{_≤ℤ_, yes-nonNeg, pos-natAbs}
 use mir.Syntax.{w64}
-use mir.Val.{SFits, toZ}
-use Rattle.integers.specs.Rounding.{floor, r}
-use Rattle.integers.specs.Bounds.{Bounded}
-use Rattle.integers.proofs.Ring.{_:*_, ring, #, v0}
+use mir.Val.{toZ}
+use borrow.Author.Needs.{needs}
+use Rattle.integers.specs.Rounding.{r}
 use Rattle.integers.proofs.Bounds.{bounded-size}
-use Rattle.integers.proofs.Machine.{bounded-fits, reads-back, result-reads-back, natural-reads-back}
-use Rattle.integers.proofs.Nearest.{r-of-floor}
+use Rattle.integers.proofs.Machine.{reads-back, natural-reads-back, unsigned-fits}
 use Rattle.scene.specs.declared.Constants.{Constants}
 use Rattle.scene.specs.Temperature.{X, temperature}
 use Rattle.scene.specs.Scene.{ConstantsRange}
-use Rattle.scene.proofs.Ranges.{tc-bounded, n-bounded, parts-bounded, x-bounded, linear-sum-bounded, temperature-bounded, d-fits, n-fits}
+use Rattle.scene.specs.Steps.{scaleOf, Bracket, unsureOf}
+use Rattle.scene.proofs.Ranges.{rise-bounded, rise-not-negative, rise-fits, x-bounded, linear-bounded}
+use Rattle.scene.proofs.Bracket.{low-end-small, linear-nearest, x-nearest, Sure, sure-by}
 use Rattle.scene.proofs.units.Statement.{statement}
 use Rattle.scene.proofs.units.Tie as tie
 
-module _ {k : Constants} {n : ℤ} (h : ConstantsRange k × (pos 0 ≤ℤ n) × ((pos 4 *ℤ n) ≤ℤ (pos 5 *ℤ k .d))) where
-  tc-fits : SFits w64 (k .tc)
-  tc-fits = bounded-fits (tc-bounded (h .0)) (lit< tt)
+-- ---- the two numbers that are rounded, by the low end w
+abbrev xAt : ℕ → ℕ
+xAt w = w + 32767
 
-  tnl-fits : SFits w64 (k .tnl)
-  tnl-fits = bounded-fits (h .0 .tnl) (lit< tt)
+abbrev linearAt : Constants → ℕ → ℕ
+linearAt k w = w * natAbs (k .rise) + 2147483647
 
-  x-fits : SFits w64 (X n (k .d))
-  x-fits = bounded-fits (x-bounded (h .0) (h .1) (h .2)) (lit< tt)
+module _ {k : Constants} {n : ℤ} {w : ℕ} (h : ConstantsRange k) (high : (pos 4 *ℤ n) ≤ℤ (pos 5 *ℤ k .d)) (e : Bracket n (k .d) w) where
+  low-end-at-most : w ≤ 5368709120
+  low-end-at-most = low-end-small (h .d-low) high e
 
-  linear-sum-fits : SFits w64 (k .tc +ℤ r (n *ℤ k .rise) (k .d))
-  linear-sum-fits = bounded-fits (linear-sum-bounded (h .0) (h .1) (h .2)) (lit< tt)
+  product-at-most : w * natAbs (k .rise) ≤ 7288087054909440
+  product-at-most = mul-le-mul low-end-at-most (bounded-size (rise-bounded h))
 
-  temperature-fits : SFits w64 (temperature (k .tc) (k .rise) (k .tnl) (k .d) n)
-  temperature-fits = bounded-fits (temperature-bounded (h .0) (h .1) (h .2)) (lit< tt)
+  module _ (s : Sure (xAt w) (linearAt k w) (scaleOf k .edge)) where
+    x-reads-back : toZ w64 (xAt w / 65536) ≡ X n (k .d)
+    x-reads-back = natural-reads-back (xAt w / 65536) (omega (arith, low-end-at-most)) ∙ x-nearest (h .d-low) e (s .of-x)
 
-  -- 2^27ths are 2,048ths of 65,536ths
-  x-of-parts : r (floor (pos 134217728 *ℤ n) (k .d)) (pos 2048) ≡ X n (k .d)
-  x-of-parts =
-      ap (λ z. r (floor z (k .d)) (pos 2048)) (ring (n ∷ []) (# 134217728 :* v0) (# 2048 :* (# 65536 :* v0)) tt)
-      ∙ r-of-floor (pos 65536 *ℤ n) (pos 1024) (h .0 .d-low) (ltZ-yes tt)
+    linear-reads-back : toZ w64 (linearAt k w / 4294967296) ≡ r (n *ℤ k .rise) (k .d)
+    linear-reads-back =
+        natural-reads-back (linearAt k w / 4294967296) (omega (arith, product-at-most))
+        ∙ linear-nearest (h .d-low) e (natAbs (k .rise)) (omega (arith, s .of-linear, bounded-size (rise-bounded h)))
+        ∙ ap (λ z. r (n *ℤ z) (k .d)) (pos-natAbs (k .rise) (yes-nonNeg (rise-not-negative h)))
 
-parts-of-requires : tie.Need-parts-of-requires
-parts-of-requires c κs =
-    let h = c .before .pre in
-    rw (reads-back (n-fits (h .0) (h .1) (h .2)), reads-back (d-fits (h .0))) (h .1, n-bounded (h .0) (h .1) (h .2) .high, h .0 .d-low)
+low-end-requires : tie.Need-low-end-requires
+low-end-requires c κs =
+    let h = c .pre in
+    rw (reads-back (c .fits .n)) (h .0, ap (λ s. s .inverse) (h .1), h .2, h .3)
 
-parts-are : (c : tie.After-parts-of) → pos (c .parts-of .result) ≡ floor (pos 134217728 *ℤ c .before .before .args .n) (c .before .before .args .k .d)
-parts-are c = let h = c .before .before .pre in rw (reads-back (n-fits (h .0) (h .1) (h .2)), reads-back (d-fits (h .0))) at (c .parts-of .ensures)
+bracketed : (l : tie.After-low-end) → Bracket (l .before .args .n) (l .before .args .k .d) (l .low-end .result)
+bracketed l = rw (reads-back (l .before .fits .n)) at (l .low-end .ensures)
 
-round-natural-requires : tie.Need-round-natural-requires
-round-natural-requires c κs =
-    let h = c .before .before .pre in
-    (le-trans (bounded-size (subst (λ z. Bounded z (pos 167772160)) (sym (parts-are c)) (parts-bounded (h .0) (h .1) (h .2)))) (lit≤ tt), lit< tt, lit≤ tt)
+add-x : tie.Need-add-x
+add-x c = let h = c .before .pre in record { fits = omega (arith, low-end-at-most (h .0) (h .3) (bracketed c)) }
 
-module _ (c : tie.After-round-natural) where
-  x-is : pos (c .round-natural .result) ≡ X (c .before .before .before .args .n) (c .before .before .before .args .k .d)
-  x-is = c .round-natural .ensures ∙ ap (λ z. r z (pos 2048)) (parts-are (c .before)) ∙ x-of-parts (c .before .before .before .pre)
+cast-linear : tie.Need-cast-linear
+cast-linear c =
+    let h = c .before .before .before .pre in
+    rw (reads-back (rise-fits (h .0))) (unsigned-fits (rise-not-negative (h .0)) (rise-fits (h .0)))
 
-  result-fits : SFits w64 (pos (c .round-natural .result))
-  result-fits = rw x-is (x-fits (c .before .before .before .pre))
-
-  x-reads-back : toZ w64 (c .round-natural .result) ≡ X (c .before .before .before .args .n) (c .before .before .before .args .k .d)
-  x-reads-back = natural-reads-back (c .round-natural .result) (result-fits .sfits) ∙ x-is
-
-cast-x : tie.Need-cast-x
-cast-x c = result-fits c
-
-linear-part-requires : tie.Need-linear-part-requires
-linear-part-requires c κs = let h = c .before .before .before .pre in rw (reads-back (n-fits (h .0) (h .1) (h .2))) (h .0, h .1, h .2, parts-are (c .before))
-
-linear-is : (c : tie.After-linear-part) → c .linear-part .result ≡ r (c .before .before .before .before .args .n *ℤ c .before .before .before .before .args .k .rise) (c .before .before .before .before .args .k .d)
-linear-is c = let h = c .before .before .before .before .pre in rw (reads-back (n-fits (h .0) (h .1) (h .2))) at (c .linear-part .ensures)
-
-add-result : tie.Need-add-result
-add-result c =
+mul-linear : tie.Need-mul-linear
+mul-linear c =
     let l = c .before .before in
-    let h = l .before .before .before .before .pre in
-    rw (reads-back (tc-fits h), result-reads-back (l .linear-part .result) (l .linear-part .ok), linear-is l) (linear-sum-fits h)
+    let h = l .before .pre in
+    rw (reads-back (rise-fits (h .0))) (record { fits = lt-of-le-of-lt (product-at-most (h .0) (h .3) (bracketed l)) (lit< tt) })
 
-bend-requires : tie.Need-bend-requires
-bend-requires c κs =
-    let x = c .before .before .before .before in
-    let h = x .before .before .before .pre in
-    rw (x-reads-back x, reads-back (tnl-fits h)) (x-bounded (h .0) (h .1) (h .2), h .0 .tnl)
+add-linear : tie.Need-add-linear
+add-linear c =
+    let l = c .before .before in
+    let h = l .before .pre in
+    rw (reads-back (rise-fits (h .0))) (record { fits = omega (arith, product-at-most (h .0) (h .3) (bracketed l)) })
 
-module _ (c : tie.After-bend) where
-  abbrev linear : tie.After-linear-part
-  linear = c .before .before .before .before
+unsure-requires : tie.Need-unsure-requires
+unsure-requires c κs = search needs
 
-  abbrev start : tie.Start
-  start = linear .before .before .before .before
-
-  bend-is : c .bend .result ≡ r (pos 4 *ℤ X (start .args .n) (start .args .k .d) *ℤ (pos 65536 -ℤ X (start .args .n) (start .args .k .d)) *ℤ start .args .k .tnl) (pos 4294967296)
-  bend-is = rw (x-reads-back (linear .before), reads-back (tnl-fits (start .pre))) at (c .bend .ensures)
-
-add-result-2 : tie.Need-add-result-2
-unfolding temperature
-add-result-2 c =
-    let l = linear c in
-    let h = start c .pre in
-    rw (reads-back (tc-fits h), result-reads-back (l .linear-part .result) (l .linear-part .ok), linear-is l, reads-back (linear-sum-fits h), result-reads-back (c .bend .result) (c .bend .ok), bend-is c)
-    (temperature-fits h)
+-- ---- unsure
+divided-units-requires : tie.Need-divided-units-requires
+divided-units-requires c κs =
+    let s = c .before .before .before .before .before in
+    rw (reads-back (s .fits .n)) (s .pre .0, s .pre .2, s .pre .3)
 
 returns : tie.Need-returns
-unfolding temperature
 returns c =
-    let l = linear c in
+    let s = c .before .before .before .before .before .before in
+    reads-back (record { sfits = c .divided-units .ok }) ∙ rw (reads-back (s .fits .n)) at (c .divided-units .ensures)
+
+-- ---- sure
+module _ (c : tie.Else1) where
+  abbrev low : tie.After-low-end
+  low = c .before .before .before .before
+
+  abbrev start : tie.Start
+  start = low .before
+
+  abbrev end : ℕ
+  end = low .low-end .result
+
+  sure : Sure (xAt end) (linearAt (start .args .k) end) (scaleOf (start .args .k) .edge)
+  sure =
+      let is : c .before .unsure .result ≡ unsureOf (xAt end) (linearAt (start .args .k) end) (start .args .scale .edge) = rw (reads-back (rise-fits (start .pre .0))) at (c .before .unsure .ensures) in
+      sure-by (xAt end) (linearAt (start .args .k) end) (scaleOf (start .args .k) .edge)
+      (ap (λ s. unsureOf (xAt end) (linearAt (start .args .k) end) (s .edge)) (sym (start .pre .1)) ∙ sym is ∙ c .if1 .left)
+
+  found-x : toZ w64 (xAt end / 65536) ≡ X (start .args .n) (start .args .k .d)
+  found-x = let h = start .pre in x-reads-back (h .0) (h .3) (bracketed low) sure
+
+  found-linear : toZ w64 (linearAt (start .args .k) end / 4294967296) ≡ r (start .args .n *ℤ start .args .k .rise) (start .args .k .d)
+  found-linear = let h = start .pre in linear-reads-back (h .0) (h .3) (bracketed low) sure
+
+cast-units-of : tie.Need-cast-units-of
+cast-units-of c = search needs
+
+cast-units-of-2 : tie.Need-cast-units-of-2
+cast-units-of-2 c = let h = start c .pre in rw (reads-back (rise-fits (h .0))) (record { sfits = omega (arith, product-at-most (h .0) (h .3) (bracketed (low c))) })
+
+units-of-requires : tie.Need-units-of-requires
+units-of-requires c κs =
     let h = start c .pre in
-    rw (reads-back (tc-fits h), result-reads-back (l .linear-part .result) (l .linear-part .ok), linear-is l, reads-back (linear-sum-fits h), result-reads-back (c .bend .result) (c .bend .ok), bend-is c, reads-back (temperature-fits h))
+    rw (reads-back (rise-fits (h .0)), found-x c, found-linear c) (h .0, x-bounded (h .0) (h .2) (h .3), linear-bounded (h .0) (h .2) (h .3))
+
+returns-2 : tie.Need-returns-2
+unfolding temperature
+returns-2 c =
+    let e = c .before in
+    reads-back (record { sfits = c .units-of .ok })
+    ∙ rw (reads-back (rise-fits (start e .pre .0)), found-x e, found-linear e) at (c .units-of .ensures)
 
 pub units-spec : {M : Type 1} → statement M
 units-spec =
     tie.close
     (tie.spec
-    parts-of-requires
-    round-natural-requires
-    cast-x
-    linear-part-requires
-    add-result
-    bend-requires
-    add-result-2
-    returns)
+    low-end-requires
+    add-x
+    cast-linear
+    mul-linear
+    add-linear
+    unsure-requires
+    divided-units-requires
+    returns
+    cast-units-of
+    cast-units-of-2
+    units-of-requires
+    returns-2)

@@ -1,0 +1,26 @@
+-- What the functions on the way to a scene give. A reader of the promises can leave this out: `sceneOf` does not cite it.
+use Prim.Native.Nat.{ℕ, _-_, _*_, _/_, _%_}
+use mathlib.Core.Bool.{Bool, _||_}
+use lib.Dec.{ltb}
+use lib.IntN.{ℤ, pos, natAbs, _+ℤ_, _-ℤ_, _*ℤ_}
+use lib.Signed.{_≤ℤ_}
+use Rattle.integers.specs.Rounding.{floor, r}
+use Rattle.scene.specs.declared.Constants.{Constants}
+use Rattle.scene.specs.declared.Scale.{Scale}
+
+-- 2^63 / D, cut off; the greatest rest of 2^32 that 33 times the rise does not fill; and the greatest N with 4N at most 5D
+abbrev pub scaleOf : Constants → Scale
+scaleOf k = record { inverse = 9223372036854775808 / natAbs (k .d); edge = 4294967294 - 33 * natAbs (k .rise); top = floor (pos 5 *ℤ k .d) (pos 4) }
+
+-- N / D is from w to w + 33, in 2^32ths
+pub record Bracket (n d : ℤ) (w : ℕ) : Type 0 where
+  pub low : (pos w *ℤ d) ≤ℤ (pos 4294967296 *ℤ n)
+  pub high : (pos 4294967296 *ℤ n) ≤ℤ ((pos w +ℤ pos 33) *ℤ d)
+
+-- a rest of 2^16 that 33 more would fill, or one of 2^32 beyond the edge
+abbrev pub unsureOf : (x linear edge : ℕ) → Bool
+unsureOf x linear edge = ltb 65501 (x % 65536) || ltb edge (linear % 4294967296)
+
+-- r(4X(65,536 - X) × TNL, 2^32)
+abbrev pub bendOf : (X tnl : ℤ) → ℤ
+bendOf x tnl = r (pos 4 *ℤ x *ℤ (pos 65536 -ℤ x) *ℤ tnl) (pos 4294967296)
