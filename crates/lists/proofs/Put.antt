@@ -1,11 +1,11 @@
 -- Laws of `put`: what it leaves and what it holds, and what comes to a put: stores in a row, a part that was lent, two puts in a row.
-use Prim.Native.Nat.{ℕ, _+_, _-_, _≤_}
-use native.Mathlib.Nat.{add-assoc}
+use Prim.Native.Nat.{ℕ, _+_, _-_, _<_, _≤_}
+use native.Mathlib.Nat.{add-assoc, le-refl}
 use native.Mathlib.Omega.{arith}
 use mathlib.Core.Path.{_≡_, refl, sym, ap, _∙_}
 use mathlib.Core.List.{List, [], _∷_, _++_, append-assoc}
-use lib.ListN.{length, set, take, drop, length-append, length-take, length-drop}
-use lib.Seq.{sets, sets-eq, length-take-le, take-all, take-at, drop-at, take-append-le, take-take, drop-append-add, drop-drop, take-add}
+use lib.ListN.{length, getD, set, take, drop, length-append, length-take, length-drop}
+use lib.Seq.{sets, sets-eq, length-take-le, take-all, take-at, drop-at, take-append-le, take-take, drop-append-add, drop-drop, take-add, getD-take, getD-drop}
 use Rattle.lists.specs.Build.{put}
 
 -- ---- what a put leaves and what it holds
@@ -46,6 +46,31 @@ module _ {A : Type 0} (b v : List A) (at : ℕ) where
       sym (drop-at (take a (put b at v)) (take n (drop a (put b at v))) a (length-take-le a (put b at v) (omega (arith, length-put fits))))
       ∙ ap (drop a) (sym (take-add a n (put b at v)) ∙ take-before-put (a + n) before (omega arith) ∙ take-add a n b)
       ∙ drop-at (take a b) (take n (drop a b)) a (length-take-le a b (omega arith))
+
+  -- the element at place i, before what was put, in it and past it
+  pub getD-before-put : (i : ℕ) (d : A) → i < at → at ≤ length b → getD (put b at v) i d ≡ getD b i d
+  getD-before-put i d before fits =
+      sym (getD-take at (put b at v) i d before)
+      ∙ ap (λ (l : List A). getD l i d) (take-before-put at (le-refl at) fits)
+      ∙ getD-take at b i d before
+
+  pub getD-in-put : (i : ℕ) (d : A) → at ≤ i → i < at + length v → at ≤ length b → getD (put b at v) i d ≡ getD v (i - at) d
+  getD-in-put i d from inside fits =
+      let place : i ≡ at + (i - at) = omega arith in
+      ap (λ (k : ℕ). getD (put b at v) k d) place
+      ∙ sym (getD-drop at (put b at v) (i - at) d)
+      ∙ sym (getD-take (length v) (drop at (put b at v)) (i - at) d (omega arith))
+      ∙ ap (λ (l : List A). getD l (i - at) d) (read-put fits)
+
+  pub getD-past-put : (i : ℕ) (d : A) → at + length v ≤ i → at ≤ length b → getD (put b at v) i d ≡ getD b i d
+  getD-past-put i d past fits =
+      let end = at + length v in
+      let place : i ≡ end + (i - end) = omega arith in
+      ap (λ (k : ℕ). getD (put b at v) k d) place
+      ∙ sym (getD-drop end (put b at v) (i - end) d)
+      ∙ ap (λ (l : List A). getD l (i - end) d) (drop-past-put end (le-refl end) fits)
+      ∙ getD-drop end b (i - end) d
+      ∙ ap (λ (k : ℕ). getD b k d) (sym place)
 
 -- ---- stores in a row
 
