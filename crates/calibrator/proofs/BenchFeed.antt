@@ -8,6 +8,7 @@ use mathlib.Core.Bool.{true, false}
 use lib.ListN.{length, getD, drop, replicate, getD-replicate}
 use Rattle.integers.specs.Rounding.{floor, r}
 use Rattle.lists.specs.Build.{tabulate, cells}
+use Rattle.lists.specs.Tests.{Verdict, passes}
 use Rattle.lists.specs.Count.{count}
 use Rattle.lists.specs.Sum.{sum}
 use Rattle.lists.proofs.Count.{count-of-first}
@@ -24,14 +25,11 @@ use Rattle.scene.specs.Scene.{sceneOf}
 use Rattle.product.specs.Scenes.{earthPart, sceneIn, sceneAt, noChannel, delivered}
 use Rattle.product.specs.Product.{productOf, deliveredCount}
 use Rattle.product.proofs.SummaryLaws.{delivered-count}
-use Rattle.calibrator.specs.declared.Fed.{Fed}
-use Rattle.calibrator.specs.declared.Answer.the-variants.{Accepted}
-use Rattle.calibrator.specs.declared.Verdict.{Verdict}
-use Rattle.calibrator.specs.declared.Verdict.the-variants.{Passes}
-use Rattle.calibrator.specs.Feeding.{earthCounts, freshOf, settings, nextWindow, channelsIn, verdictOf, fedBy, fedOf, bufferBy, bufferOf}
+use Rattle.calibrator.specs.Refusals.{delivered as accepted}
+use Rattle.calibrator.specs.Moments.{earthCounts}
+use Rattle.calibrator.specs.Feeding.{Outcome, freshOf, channelsIn, nextChannels, verdictIn, stepBy, step}
 use Rattle.calibrator.specs.Bench.{benchTable, benchScan, benchCalibrator, benchSettings, benchChannel}
 use Rattle.calibrator.proofs.Verdicts.{verdict-passes}
-use Rattle.calibrator.proofs.FedLaws.{fed-when-passed, buffer-when-passed}
 use Rattle.calibrator.proofs.BenchScan.{bench-kept, earth-count}
 
 module _ (earth : ℕ) where
@@ -49,22 +47,31 @@ module _ (earth : ℕ) where
   unfolding benchScan
   number = refl
 
-  pub bench-passes : (size : ℕ) → 8706 ≤ size → verdictOf benchCalibrator (benchScan earth) size ≡ Passes
+  pub bench-passes : (buffer : List ℕ) → 8706 ≤ length buffer → verdictIn benchCalibrator (record { scan = benchScan earth; buffer = buffer }) ≡ passes
   unfolding freshOf windowOf
-  bench-passes size room = verdict-passes false 0 (benchScan earth) size long right refl room
+  bench-passes buffer room = verdict-passes false 0 (benchScan earth) (length buffer) long right refl room
 
   -- ---- its channels and its product
 
-  pub bench-channels : channelsIn (settings benchCalibrator) (nextWindow benchCalibrator (benchScan earth)) ≡ replicate 22 benchChannel
+  pub bench-channels : nextChannels benchCalibrator (benchScan earth) ≡ replicate 22 benchChannel
   unfolding freshOf benchTable benchScan windowOf windowAfter shifted noScan cells tabulate stateOf flagOf constantsOf meansFrom weightSum valueSum thermometerWeights thermometerSum sum r floor
   bench-channels = ap (λ (kept : Scan). channelsIn benchSettings (windowAfter emptyWindow 7 kept)) (bench-kept earth)
 
-  pub bench-buffer : (buffer : List ℕ) → 8706 ≤ length buffer
-      → bufferOf benchCalibrator (benchScan earth) buffer
-      ≡ productOf 7 (replicate 22 benchChannel) (earthCounts (benchScan earth)) ++ drop 8706 buffer
-  bench-buffer buffer room =
-      ap (λ (v : Verdict). bufferBy v benchCalibrator (benchScan earth) buffer) (bench-passes (length buffer) room)
-      ∙ sym (buffer-when-passed benchCalibrator (benchScan earth) 7 _ _ buffer (sym number) (sym bench-channels) refl)
+  pub bench-outcome : (buffer : List ℕ) → 8706 ≤ length buffer
+      → step benchCalibrator (record { scan = benchScan earth; buffer = buffer }) .outcome
+      ≡ record {
+        reply = accepted (deliveredCount (replicate 22 benchChannel) (earthCounts (benchScan earth)));
+        buffer = productOf 7 (replicate 22 benchChannel) (earthCounts (benchScan earth)) ++ drop 8706 buffer;
+      }
+  unfolding stepBy
+  bench-outcome buffer room =
+      let earths = earthCounts (benchScan earth) in
+      ap (λ (v : Verdict). stepBy v benchCalibrator (record { scan = benchScan earth; buffer = buffer }) .outcome) (bench-passes buffer room)
+      ∙ ap (λ (n : ℕ). record {
+        reply = accepted (deliveredCount (nextChannels benchCalibrator (benchScan earth)) earths);
+        buffer = productOf n (nextChannels benchCalibrator (benchScan earth)) earths ++ drop 8706 buffer;
+      }) number
+      ∙ ap (λ (all : List Channel). record { reply = accepted (deliveredCount all earths); buffer = productOf 7 all earths ++ drop 8706 buffer }) bench-channels
 
 -- ---- every scene of count 15,000 is delivered
 
@@ -86,10 +93,5 @@ unfolding sum
 all-delivered =
     delivered-count (replicate 22 benchChannel) (earthCounts (benchScan 15000)) ∙ sum-same _ (λ c. 96) 22 scenes-of-channel
 
-pub bench-answer : (size : ℕ) → 8706 ≤ size → fedOf benchCalibrator (benchScan 15000) size .answer ≡ Accepted 2112
-bench-answer size room =
-    let scan = benchScan 15000 in
-    ap (λ (v : Verdict). fedBy v benchCalibrator scan .answer) (bench-passes 15000 size room)
-    ∙ ap (λ (f : Fed). f .answer)
-    (sym (fed-when-passed benchCalibrator scan _ 2112 refl
-    (sym all-delivered ∙ ap (λ (all : List Channel). deliveredCount all (earthCounts scan)) (sym (bench-channels 15000)))))
+pub bench-reply : (buffer : List ℕ) → 8706 ≤ length buffer → step benchCalibrator (record { scan = benchScan 15000; buffer = buffer }) .outcome .reply ≡ accepted 2112
+bench-reply buffer room = ap (λ (o : Outcome). o .reply) (bench-outcome 15000 buffer room) ∙ ap accepted all-delivered

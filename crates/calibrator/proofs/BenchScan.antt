@@ -38,9 +38,11 @@ use Rattle.window.specs.Means.{meansFrom, meansOf}
 use Rattle.product.specs.Scenes.{earthPart}
 use Rattle.product.specs.Product.{u16Bytes}
 use Rattle.product.proofs.Bytes.{stands-inside, cell-stands, u16-that-stands}
-use Rattle.calibrator.specs.Feeding.{earthCounts, keptBy}
-use Rattle.calibrator.specs.Roll.{scanOfAge, meansAt}
-use Rattle.calibrator.specs.Bench.{benchTable, perChannel, benchScan, benchSettings, limits}
+use Rattle.calibrator.specs.Moments.{earthCounts, meansAt}
+use Rattle.calibrator.specs.Feeding.{keptBy}
+use Rattle.calibrator.specs.Bench.{benchTable, perChannel, benchScan, benchSettings, benchMoment, limits}
+use Rattle.calibrator.proofs.RollLaws.{scanOfAge}
+use Rattle.calibrator.proofs.SampleLaws.{means-at-is}
 
 -- ---- the table
 
@@ -105,9 +107,10 @@ module _ (earth : ℕ) where
 
   -- ---- the sums of each channel
 
-  pub bench-means : (c : ℕ) → c < channels → meansAt benchSettings (benchScan earth ∷ []) c ≡ benchMeans (targetOf c)
+  pub bench-means : (c : ℕ) → c < channels → meansAt benchSettings (benchMoment earth) c ≡ benchMeans (targetOf c)
   unfolding scanOfAge benchScan
   bench-means c below =
+      means-at-is benchSettings (benchMoment earth) c below ∙
       ap (λ (kept : Scan). meansOf benchSettings (λ k. cond (eqb (7 + k) 7) kept noScan) c) bench-kept ∙ means-of-kept c below
 
   -- ---- the earth counts

@@ -1,44 +1,86 @@
--- Demand 3, entire: for every accepted table, every list of feeds and every second list.
-use mathlib.Core.Path.{_≡_, refl, sym, subst, subst₂}
-use mathlib.Core.List.{List, [], _∷_}
+-- Demand 3, entire: for every accepted table, every list of feeds and every second list. After any list of feeds the calibrator is an
+-- equation of the plain roll, so that each step leaves what the roll says.
+use mathlib.Core.Path.{_≡_, refl, sym, ap, subst, subst₂, _∙_}
+use mathlib.Core.List.{List, [], _∷_, _++_}
 use lib.ListN.{drop}
-use Rattle.fields.specs.Fields.{layoutSize}
+use lib.Seq.{take-at, drop-at}
+use Rattle.lists.specs.Tests.{Verdict, passes, fails}
 use Rattle.table.specs.declared.Table.{Table}
 use Rattle.table.specs.Settings.{Settings, settingsOf}
 use Rattle.table.specs.Ranges.{SettingsRange}
 use Rattle.table.specs.Opening.{ages, AcceptedTable}
 use Rattle.table.proofs.OpeningLaws.{accepted-ranges}
-use Rattle.acceptance.specs.Record.{scanNumber}
-use Rattle.product.specs.Product.{productLayout}
+use Rattle.product.proofs.Bytes.{length-product}
 use Rattle.calibrator.specs.declared.Calibrator.{Calibrator}
-use Rattle.calibrator.specs.declared.Verdict.{Verdict}
-use Rattle.calibrator.specs.declared.Verdict.the-variants.{Passes, Fails}
-use Rattle.calibrator.specs.Feeding.{freshOf}
-use Rattle.calibrator.specs.Roll.{Feed, Outcome, Roll, verdictAt, joined, outcomeBy}
-use Rattle.calibrator.specs.Promise.{outcomes, Each, ScenesBy, FeedClaim, SameProducts, Promise}
-use Rattle.calibrator.proofs.SceneClaims.{scene-claim}
-use Rattle.calibrator.proofs.AlikeLaws.{rolledOutcomes, alike-products}
-use Rattle.calibrator.proofs.HistoryLaws.{outcomes-by-roll, fresh-is-empty-roll}
+use Rattle.calibrator.specs.Refusals.{delivered}
+use Rattle.calibrator.specs.Roll.{Feed, Roll, lastNumber, verdictAt, joinedBy, joined}
+use Rattle.calibrator.specs.Moments.{Moment, currentNumber, earthCounts, channelsAt, productAt}
+use Rattle.calibrator.specs.Feeding.{Outcome, Stepped, freshOf, step}
+use Rattle.calibrator.specs.Promise.{AcceptedClaim, FeedClaimBy, FeedClaim, Each, Alike, SameOutcome, SameProducts, Promise, DemandThree}
+use Rattle.calibrator.proofs.RollLaws.{NumbersTo}
+use Rattle.calibrator.proofs.SceneClaims.{scene-claim, delivered-in}
+use Rattle.calibrator.proofs.RolledOutcomes.{fedMoment, writtenAt, outcomeBy}
+use Rattle.calibrator.proofs.AlikeLaws.{SameRolls, same-step}
+use Rattle.calibrator.proofs.HistoryLaws.{calibratorOf, numbers-joined, calibrator-after, outcome-after, fresh-is-empty-roll}
 
+-- ---- one feed
 module _ (s : Settings) (range : SettingsRange s) where
-  scenes-of : (v : Verdict) (roll : Roll) (feed : Feed) → ScenesBy v s roll feed (outcomeBy v s roll feed)
-  scenes-of Passes roll feed = λ c i below inside. scene-claim s (feed .scan ∷ roll) (feed .scan) c i range below inside (scanNumber (feed .scan)) (drop (layoutSize productLayout) (feed .buffer))
-  scenes-of (Fails refusal) roll feed = tt
-
-  each-feed : (feeds : List Feed) (roll : Roll) → Each (FeedClaim s) roll feeds (rolledOutcomes s roll feeds)
-  unfolding Each rolledOutcomes
-  each-feed [] roll = tt
-  each-feed (feed ∷ more) roll = (record { same = refl; scenes = scenes-of (verdictAt roll feed) roll feed }, each-feed more (joined roll feed))
+  accepted-claim : (m : Moment) (feed : Feed) (c : Calibrator) → AcceptedClaim s m feed (record { calibrator = c; outcome = writtenAt s m (feed .buffer) })
+  accepted-claim m feed c =
+      let long = length-product (currentNumber m) (channelsAt s m) (earthCounts (m .scan)) in
+      let rest = drop 8706 (feed .buffer) in
+      record {
+        product = take-at (productAt s m) rest 8706 long;
+        rest = drop-at (productAt s m) rest 8706 long;
+        reply = ap delivered (delivered-in s m range rest);
+        scenes = λ c i below inside. scene-claim s m c i range below inside rest;
+      }
 
 module _ (table : Table) (accepted : AcceptedTable (table .bytes)) where
   abbrev s : Settings
   s = settingsOf ages (table .bytes)
 
-  run-is : (feeds : List Feed) → outcomes (freshOf table) feeds ≡ rolledOutcomes s [] feeds
-  run-is feeds = subst (λ (c : Calibrator). outcomes c feeds ≡ rolledOutcomes s [] feeds) (sym (fresh-is-empty-roll table)) (outcomes-by-roll table feeds [] tt)
+  -- a feed that leaves what the roll says meets the claim
+  claim-by : (v : Verdict) (roll : Roll) (feed : Feed) (after : Stepped) → after .calibrator ≡ calibratorOf table (joinedBy v roll feed)
+      → after .outcome ≡ outcomeBy v s roll feed → FeedClaimBy v s roll (calibratorOf table roll) feed after
+  claim-by passes roll feed after handed left =
+      let m = fedMoment roll (feed .scan) in
+      subst (λ (o : Outcome). AcceptedClaim s m feed (record { calibrator = after .calibrator; outcome = o })) (sym left) (accepted-claim s (accepted-ranges accepted) m feed (after .calibrator))
+  claim-by (fails n) roll feed after handed left =
+      record { reply = ap (λ (o : Outcome). o .reply) left; calibrator = handed; buffer = ap (λ (o : Outcome). o .buffer) left }
 
-  pub demand-three : (feeds others : List Feed) → Promise (freshOf table) s feeds others
-  demand-three feeds others = record {
-    each = subst (λ (os : List Outcome). Each (FeedClaim s) [] feeds os) (sym (run-is feeds)) (each-feed s (accepted-ranges accepted) feeds []);
-    alike = λ e. subst₂ SameProducts (sym (run-is feeds)) (sym (run-is others)) (alike-products s feeds others [] [] (record { last = refl; scans = refl }) e);
-  }
+  -- ---- a list of feeds
+  each-from : (feeds : List Feed) (roll : Roll) → NumbersTo roll (lastNumber roll) → Each (FeedClaim s) roll (calibratorOf table roll) feeds
+  unfolding Each
+  each-from [] roll numbers = tt
+  each-from (feed ∷ more) roll numbers =
+      let handed = calibrator-after table roll feed numbers in (
+        claim-by (verdictAt roll feed) roll feed (step (calibratorOf table roll) feed) handed (outcome-after table roll feed numbers),
+        subst (λ (c : Calibrator). Each (FeedClaim s) (joined roll feed) c more) (sym handed) (each-from more (joined roll feed) (numbers-joined (verdictAt roll feed) roll feed refl numbers)),
+      )
+
+  alike-from : (feeds others : List Feed) (roll rolled : Roll) → NumbersTo roll (lastNumber roll) → NumbersTo rolled (lastNumber rolled) → SameRolls s roll rolled
+      → Alike s roll rolled feeds others → SameProducts (calibratorOf table roll) (calibratorOf table rolled) feeds others
+  unfolding Alike SameProducts
+  alike-from [] [] roll rolled numbers others same e = tt
+  alike-from [] (other ∷ rest) roll rolled numbers others same e = absurd e
+  alike-from (feed ∷ more) [] roll rolled numbers others same e = absurd e
+  alike-from (feed ∷ more) (other ∷ rest) roll rolled numbers others same e =
+      let both = same-step s (verdictAt roll feed) roll rolled feed other (e .0 .scans) same in
+      let verdicts = e .0 .verdicts in
+      let rolls = subst (λ (v : Verdict). SameRolls s (joined roll feed) (joinedBy v rolled other)) verdicts (both .rolls) in (
+        subst₂ SameOutcome (sym (outcome-after table roll feed numbers))
+            (ap (λ (v : Verdict). outcomeBy v s rolled other) verdicts ∙ sym (outcome-after table rolled other others)) (both .outcomes),
+        subst₂ (λ (c d : Calibrator). SameProducts c d more rest) (sym (calibrator-after table roll feed numbers)) (sym (calibrator-after table rolled other others))
+            (alike-from more rest (joined roll feed) (joined rolled other)
+            (numbers-joined (verdictAt roll feed) roll feed refl numbers) (numbers-joined (verdictAt rolled other) rolled other refl others) rolls (e .1)),
+      )
+
+pub demand-three : DemandThree
+demand-three table accepted feeds others =
+    let s = settingsOf ages (table .bytes) in
+    let fresh = sym (fresh-is-empty-roll table) in
+    record {
+      each = subst (λ (c : Calibrator). Each (FeedClaim s) [] c feeds) fresh (each-from table accepted feeds [] tt);
+      alike = λ e. subst (λ (c : Calibrator). SameProducts c c feeds others) fresh (alike-from table accepted feeds others [] [] tt tt (record { last = refl; scans = refl }) e);
+    }

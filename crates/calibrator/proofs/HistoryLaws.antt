@@ -1,11 +1,12 @@
 -- After any list of feeds the calibrator is an equation of the plain roll, so that what each feed leaves is what the roll says.
 use Prim.Native.Nat.{ℕ, _+_, _<_, _≤_}
 use native.Mathlib.Omega.{arith}
-use mathlib.Core.Path.{_≡_, refl, ap, ap₂, _∙_}
+use mathlib.Core.Path.{_≡_, refl, sym, ap, ap₂, _∙_}
 use mathlib.Core.List.{List, [], _∷_, _++_}
 use mathlib.Core.Bool.{Bool, true, false, cond}
 use lib.Dec.{eqb}
 use lib.ListN.{length, drop, length-append}
+use Rattle.lists.specs.Tests.{Verdict, passes, fails}
 use Rattle.fields.specs.Fields.{layoutSize}
 use Rattle.lists.proofs.Tabulate.{length-tabulate, tabulate-same}
 use Rattle.lists.proofs.Cells.{cells-same}
@@ -22,15 +23,14 @@ use Rattle.window.specs.Means.{stateOf}
 use Rattle.window.proofs.AgeLaws.{ScanShape, gap-between, window-after-is-aged, means-of-scans}
 use Rattle.product.specs.Product.{productLayout, productOf, deliveredCount}
 use Rattle.calibrator.specs.declared.Calibrator.{Calibrator}
-use Rattle.calibrator.specs.declared.Verdict.{Verdict}
-use Rattle.calibrator.specs.declared.Verdict.the-variants.{Passes, Fails}
-use Rattle.calibrator.specs.declared.Answer.the-variants.{Accepted}
-use Rattle.calibrator.specs.Feeding.{earthCounts, keptBy, freshOf, fedBy, bufferBy, nextWindow, channelsIn}
-use Rattle.calibrator.specs.Roll.{Feed, Outcome, Roll, begun, lastNumber, verdictAt, joinedBy, joined, scanOfAge, channelsAt, outcomeBy}
-use Rattle.calibrator.specs.Promise.{outcomes}
+use Rattle.calibrator.specs.Refusals.{delivered}
+use Rattle.calibrator.specs.Roll.{Feed, Roll, begun, lastNumber, verdictAt, joinedBy, joined}
+use Rattle.calibrator.specs.Moments.{earthCounts, channelsAt}
+use Rattle.calibrator.specs.Feeding.{Outcome, keptBy, freshOf, nextWindow, channelsIn, nextChannels, stepBy, step}
 use Rattle.calibrator.proofs.Verdicts.{passes-facts}
-use Rattle.calibrator.proofs.RollLaws.{NumbersTo, aged-roll, numbers-further}
-use Rattle.calibrator.proofs.AlikeLaws.{rolledOutcomes}
+use Rattle.calibrator.proofs.RollLaws.{scanOfAge, NumbersTo, aged-roll, numbers-further}
+use Rattle.calibrator.proofs.SampleLaws.{means-at-is}
+use Rattle.calibrator.proofs.RolledOutcomes.{fedMoment, outcomeBy, outcomeAt}
 
 -- ---- the calibrator after a roll
 abbrev pub scansOf : Settings → Roll → ℕ → Scan
@@ -72,15 +72,18 @@ module _ (s : Settings) where
       ∙ window-same true (scanNumber scan) _ _ (λ k inside. aged-roll s scan roll numbers above k inside)
 
   -- its channels
-  channels-joined : s .ages ≤ ages → (scan : List ℕ) (roll : Roll) → channelsIn s (windowOf true (scanNumber scan) (scansOf s (scan ∷ roll))) ≡ channelsAt s (scan ∷ roll)
+  channels-joined : s .ages ≤ ages → (scan : List ℕ) (roll : Roll) → channelsIn s (windowOf true (scanNumber scan) (scansOf s (scan ∷ roll))) ≡ channelsAt s (fedMoment roll scan)
   channels-joined few scan roll =
-      tabulate-same _ _ channels (λ c inside. ap (stateOf s c) (means-of-scans s few true (scanNumber scan) (scansOf s (scan ∷ roll)) (λ k. by-age-shape (scan ∷ roll) (scanNumber scan) k) c inside))
+      tabulate-same _ _ channels (λ c inside.
+      ap (stateOf s c)
+      (means-of-scans s few true (scanNumber scan) (scansOf s (scan ∷ roll)) (λ k. by-age-shape (scan ∷ roll) (scanNumber scan) k) c inside
+      ∙ sym (means-at-is s (fedMoment roll scan) c inside)))
 
 -- ---- one feed
 pub numbers-joined : (v : Verdict) (roll : Roll) (feed : Feed) → verdictAt roll feed ≡ v → NumbersTo roll (lastNumber roll) → NumbersTo (joinedBy v roll feed) (lastNumber (joinedBy v roll feed))
-numbers-joined (Fails refusal) roll feed e numbers = numbers
-numbers-joined Passes [] feed e numbers = (omega arith, tt)
-numbers-joined Passes (scan ∷ roll) feed e numbers =
+numbers-joined (fails n) roll feed e numbers = numbers
+numbers-joined passes [] feed e numbers = (omega arith, tt)
+numbers-joined passes (scan ∷ roll) feed e numbers =
     (omega arith, numbers-further (scan ∷ roll) (omega (arith, passes-facts true (scanNumber scan) (feed .scan) (length (feed .buffer)) e .above refl)) numbers)
 
 module _ (table : Table) where
@@ -91,36 +94,34 @@ module _ (table : Table) where
     abbrev before : Calibrator
     before = calibratorOf table roll
 
-    next-window : verdictAt roll feed ≡ Passes → nextWindow before (feed .scan) ≡ windowOf true (scanNumber (feed .scan)) (scansOf tableSettings (feed .scan ∷ roll))
+    next-window : verdictAt roll feed ≡ passes → nextWindow before (feed .scan) ≡ windowOf true (scanNumber (feed .scan)) (scansOf tableSettings (feed .scan ∷ roll))
     next-window e = window-joined tableSettings (feed .scan) roll numbers (passes-facts (begun roll) (lastNumber roll) (feed .scan) (length (feed .buffer)) e .above)
 
-    next-channels : verdictAt roll feed ≡ Passes → channelsIn tableSettings (nextWindow before (feed .scan)) ≡ channelsAt tableSettings (feed .scan ∷ roll)
+    next-channels : verdictAt roll feed ≡ passes → nextChannels before (feed .scan) ≡ channelsAt tableSettings (fedMoment roll (feed .scan))
     next-channels e = ap (channelsIn tableSettings) (next-window e) ∙ channels-joined tableSettings (omega arith) (feed .scan) roll
 
-    pub calibrator-after : (v : Verdict) → verdictAt roll feed ≡ v → fedBy v before (feed .scan) .calibrator ≡ calibratorOf table (joinedBy v roll feed)
-    unfolding fedBy
-    calibrator-after Passes e = ap (λ (w : Window). record { table = table; window = w }) (next-window e)
-    calibrator-after (Fails refusal) e = refl
+    calibrator-by : (v : Verdict) → verdictAt roll feed ≡ v → stepBy v before feed .calibrator ≡ calibratorOf table (joinedBy v roll feed)
+    unfolding stepBy
+    calibrator-by passes e = ap (λ (w : Window). record { table = table; window = w }) (next-window e)
+    calibrator-by (fails n) e = refl
 
-    pub outcome-after : (v : Verdict) → verdictAt roll feed ≡ v
-        → record { answer = fedBy v before (feed .scan) .answer; buffer = bufferBy v before (feed .scan) (feed .buffer) } ≡ outcomeBy v tableSettings roll feed
-    unfolding fedBy bufferBy
-    outcome-after Passes e =
+    outcome-by : (v : Verdict) → verdictAt roll feed ≡ v → stepBy v before feed .outcome ≡ outcomeBy v tableSettings roll feed
+    unfolding stepBy
+    outcome-by passes e =
         ap (λ (all : List Channel). record {
-          answer = Accepted (deliveredCount all (earthCounts (feed .scan)));
+          reply = delivered (deliveredCount all (earthCounts (feed .scan)));
           buffer = productOf (scanNumber (feed .scan)) all (earthCounts (feed .scan)) ++ drop (layoutSize productLayout) (feed .buffer);
         }) (next-channels e)
-    outcome-after (Fails refusal) e = refl
+    outcome-by (fails n) e = refl
 
-  -- ---- a list of feeds
-  pub outcomes-by-roll : (feeds : List Feed) (roll : Roll) → NumbersTo roll (lastNumber roll) → outcomes (calibratorOf table roll) feeds ≡ rolledOutcomes tableSettings roll feeds
-  unfolding outcomes rolledOutcomes windowOf
-  outcomes-by-roll [] roll numbers = refl
-  outcomes-by-roll (feed ∷ more) roll numbers =
-      let v = verdictAt roll feed in
-      ap₂ (λ (o : Outcome) (os : List Outcome). o ∷ os)
-      (outcome-after roll feed numbers v refl)
-      (ap (λ (c : Calibrator). outcomes c more) (calibrator-after roll feed numbers v refl) ∙ outcomes-by-roll more (joined roll feed) (numbers-joined v roll feed refl numbers))
+    -- the calibrator that is handed back is that of the roll with this feed, and the outcome is what the roll says
+    pub calibrator-after : step before feed .calibrator ≡ calibratorOf table (joined roll feed)
+    unfolding windowOf
+    calibrator-after = calibrator-by (verdictAt roll feed) refl
+
+    pub outcome-after : step before feed .outcome ≡ outcomeAt tableSettings roll feed
+    unfolding windowOf
+    outcome-after = outcome-by (verdictAt roll feed) refl
 
   pub fresh-is-empty-roll : freshOf table ≡ calibratorOf table []
   unfolding freshOf scanOfAge

@@ -1,7 +1,9 @@
 pub mod Verdicts
 pub mod AcceptedLaws
-pub mod FedLaws
+pub mod StepLaws
 pub mod RollLaws
+pub mod SampleLaws
+pub mod RolledOutcomes
 pub mod SceneClaims
 pub mod AlikeLaws
 pub mod HistoryLaws

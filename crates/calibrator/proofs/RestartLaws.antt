@@ -8,6 +8,7 @@ use mathlib.Core.Bool.{Bool, true, false, _&&_, cond}
 use lib.Dec.{eqb, leb, ltb}
 use lib.ListN.{length, drop}
 use borrow.Author.Tests.{ne-eqb, lt-leb, ltb-false}
+use Rattle.lists.specs.Tests.{Verdict, passes, fails}
 use Rattle.fields.specs.Fields.{layoutSize, layoutIsRight}
 use Rattle.lists.proofs.Tabulate.{tabulate-same}
 use Rattle.table.specs.declared.Table.{Table}
@@ -22,15 +23,15 @@ use Rattle.window.specs.Means.{meansOf, meansIn, stateOf}
 use Rattle.window.proofs.AgeLaws.{ScanShape, means-of-scans}
 use Rattle.product.specs.Product.{productLayout, productOf, deliveredCount}
 use Rattle.calibrator.specs.declared.Calibrator.{Calibrator}
-use Rattle.calibrator.specs.declared.Verdict.{Verdict}
-use Rattle.calibrator.specs.declared.Verdict.the-variants.{Passes, Fails}
-use Rattle.calibrator.specs.declared.Answer.the-variants.{Accepted}
-use Rattle.calibrator.specs.Feeding.{earthCounts, keptBy, freshOf}
-use Rattle.calibrator.specs.Roll.{Feed, Roll, begun, lastNumber, verdictAt, joinedBy, joined, scanOfAge, channelsAt, outcomeBy, outcomeAt}
-use Rattle.calibrator.specs.Promise.{outcomeIn}
-use Rattle.calibrator.specs.Restart.{calibratorAfter, outcomeAfter, rolledBy, recent, feedsOf, Restart}
+use Rattle.calibrator.specs.Refusals.{delivered}
+use Rattle.calibrator.specs.Roll.{Feed, Roll, begun, lastNumber, verdictAt, joinedBy, joined}
+use Rattle.calibrator.specs.Moments.{earthCounts, channelsAt}
+use Rattle.calibrator.specs.Feeding.{keptBy, freshOf, step, calibratorAfter, outcomeAfter}
+use Rattle.calibrator.specs.Restart.{rolledBy, recent, feedsOf, Restart}
 use Rattle.calibrator.proofs.Verdicts.{verdict-passes, passes-facts}
-use Rattle.calibrator.proofs.RollLaws.{NumbersTo}
+use Rattle.calibrator.proofs.RollLaws.{scanOfAge, NumbersTo}
+use Rattle.calibrator.proofs.SampleLaws.{means-at-is}
+use Rattle.calibrator.proofs.RolledOutcomes.{fedMoment, outcomeBy, outcomeAt}
 use Rattle.calibrator.proofs.HistoryLaws.{calibratorOf, by-age-shape, window-same, numbers-joined, calibrator-after, outcome-after, fresh-is-empty-roll}
 
 -- ---- a roll that feeds have made: each record is well formed, and its number is above all before it
@@ -56,8 +57,8 @@ last-when-below [] n below = refl
 last-when-below (scan ∷ roll) n below = lt-leb n (scanNumber scan) (below .0)
 
 made-joined : (v : Verdict) (roll : Roll) (feed : Feed) → verdictAt roll feed ≡ v → Made roll → Made (joinedBy v roll feed)
-made-joined (Fails refusal) roll feed e made = made
-made-joined Passes roll feed e made =
+made-joined (fails n) roll feed e made = made
+made-joined passes roll feed e made =
     let passed = passes-facts (begun roll) (lastNumber roll) (feed .scan) (length (feed .buffer)) e in
     ((passed .long, passed .right), (below-when-last roll (scanNumber (feed .scan)) made (passed .above), made))
 
@@ -92,7 +93,7 @@ rolled-append [] more roll = refl
 rolled-append (feed ∷ feeds) more roll = rolled-append feeds more (joined roll feed)
 
 module _ (buffer : List ℕ) (room : layoutSize productLayout ≤ length buffer) where
-  again-passes : (scan : List ℕ) (roll : Roll) → Made (scan ∷ roll) → verdictAt roll (record { scan = scan; buffer = buffer }) ≡ Passes
+  again-passes : (scan : List ℕ) (roll : Roll) → Made (scan ∷ roll) → verdictAt roll (record { scan = scan; buffer = buffer }) ≡ passes
   again-passes scan roll made =
       verdict-passes (begun roll) (lastNumber roll) scan (length buffer) (made .0 .0) (made .0 .1) (last-when-below roll (scanNumber scan) (made .1 .0)) room
 
@@ -130,9 +131,14 @@ module _ (s : Settings) where
   unfolding scanOfAge
   joined-recent scan roll k inside = ap (λ (x : Scan). cond (eqb (scanNumber scan + k) (scanNumber scan)) (keptBy s scan) x) (recent-same (scanNumber scan) roll k inside)
 
-  channels-recent : s .ages ≤ ages → (scan : List ℕ) (roll : Roll) → channelsAt s (scan ∷ roll) ≡ channelsAt s (scan ∷ recent (scanNumber scan) roll)
+  channels-recent : s .ages ≤ ages → (scan : List ℕ) (roll : Roll) → channelsAt s (fedMoment roll scan) ≡ channelsAt s (fedMoment (recent (scanNumber scan) roll) scan)
   channels-recent few scan roll =
-      tabulate-same _ _ channels (λ c inside. ap (stateOf s c) (means-same few _ _ (λ k. by-age-shape s (scan ∷ roll) (scanNumber scan) k) (λ k. by-age-shape s (scan ∷ recent (scanNumber scan) roll) (scanNumber scan) k) (λ k below. joined-recent scan roll k below) c inside))
+      let older = recent (scanNumber scan) roll in
+      tabulate-same _ _ channels (λ c inside.
+      ap (stateOf s c)
+      (means-at-is s (fedMoment roll scan) c inside
+      ∙ means-same few _ _ (λ k. by-age-shape s (scan ∷ roll) (scanNumber scan) k) (λ k. by-age-shape s (scan ∷ older) (scanNumber scan) k) (λ k below. joined-recent scan roll k below) c inside
+      ∙ sym (means-at-is s (fedMoment older scan) c inside)))
 
 -- ---- the law
 module _ (table : Table) where
@@ -140,12 +146,11 @@ module _ (table : Table) where
   ofTable = settingsOf ages (table .bytes)
 
   after-is : (feeds : List Feed) (roll : Roll) → NumbersTo roll (lastNumber roll) → calibratorAfter (calibratorOf table roll) feeds ≡ calibratorOf table (rolledBy roll feeds)
-  unfolding calibratorAfter rolledBy windowOf
+  unfolding calibratorAfter rolledBy
   after-is [] roll numbers = refl
   after-is (feed ∷ more) roll numbers =
-      let v = verdictAt roll feed in
-      ap (λ (c : Calibrator). calibratorAfter c more) (calibrator-after table roll feed numbers v refl)
-      ∙ after-is more (joined roll feed) (numbers-joined v roll feed refl numbers)
+      ap (λ (c : Calibrator). calibratorAfter c more) (calibrator-after table roll feed numbers)
+      ∙ after-is more (joined roll feed) (numbers-joined (verdictAt roll feed) roll feed refl numbers)
 
   numbers-by : (feeds : List Feed) (roll : Roll) → NumbersTo roll (lastNumber roll) → NumbersTo (rolledBy roll feeds) (lastNumber (rolledBy roll feeds))
   unfolding rolledBy
@@ -153,20 +158,19 @@ module _ (table : Table) where
   numbers-by (feed ∷ more) roll numbers = numbers-by more (joined roll feed) (numbers-joined (verdictAt roll feed) roll feed refl numbers)
 
   left-by : (feeds : List Feed) (feed : Feed) → outcomeAfter (freshOf table) feeds feed ≡ outcomeAt ofTable (rolledBy [] feeds) feed
-  unfolding windowOf
   left-by feeds feed =
-      ap (λ (c : Calibrator). outcomeIn (calibratorAfter c feeds) feed) (fresh-is-empty-roll table)
-      ∙ ap (λ (c : Calibrator). outcomeIn c feed) (after-is feeds [] tt)
-      ∙ outcome-after table (rolledBy [] feeds) feed (numbers-by feeds [] tt) (verdictAt (rolledBy [] feeds) feed) refl
+      ap (λ (c : Calibrator). step (calibratorAfter c feeds) feed .outcome) (fresh-is-empty-roll table)
+      ∙ ap (λ (c : Calibrator). step c feed .outcome) (after-is feeds [] tt)
+      ∙ outcome-after table (rolledBy [] feeds) feed (numbers-by feeds [] tt)
 
-  both-accepted : (feed : Feed) (roll : Roll) → Made roll → verdictAt roll feed ≡ Passes → outcomeAt ofTable roll feed ≡ outcomeAt ofTable (recent (scanNumber (feed .scan)) roll) feed
+  both-accepted : (feed : Feed) (roll : Roll) → Made roll → verdictAt roll feed ≡ passes → outcomeAt ofTable roll feed ≡ outcomeAt ofTable (recent (scanNumber (feed .scan)) roll) feed
   both-accepted feed roll made e =
       let number = scanNumber (feed .scan) in
       let passed = passes-facts (begun roll) (lastNumber roll) (feed .scan) (length (feed .buffer)) e in
       let older = below-when-last roll number made (passed .above) in
-      let again : verdictAt (recent number roll) feed ≡ Passes = verdict-passes (begun (recent number roll)) (lastNumber (recent number roll)) (feed .scan) (length (feed .buffer)) (passed .long) (passed .right) (last-when-below (recent number roll) number (recent-below number roll number older)) (passed .room) in
+      let again : verdictAt (recent number roll) feed ≡ passes = verdict-passes (begun (recent number roll)) (lastNumber (recent number roll)) (feed .scan) (length (feed .buffer)) (passed .long) (passed .right) (last-when-below (recent number roll) number (recent-below number roll number older)) (passed .room) in
       ap (λ (v : Verdict). outcomeBy v ofTable roll feed) e
-      ∙ ap (λ (all : List Channel). record { answer = Accepted (deliveredCount all (earthCounts (feed .scan))); buffer = productOf number all (earthCounts (feed .scan)) ++ drop (layoutSize productLayout) (feed .buffer) }) (channels-recent ofTable (omega arith) (feed .scan) roll)
+      ∙ ap (λ (all : List Channel). record { reply = delivered (deliveredCount all (earthCounts (feed .scan))); buffer = productOf number all (earthCounts (feed .scan)) ++ drop (layoutSize productLayout) (feed .buffer) }) (channels-recent ofTable (omega arith) (feed .scan) roll)
       ∙ sym (ap (λ (v : Verdict). outcomeBy v ofTable (recent number roll) feed) again)
 
   pub restart : Restart (freshOf table)

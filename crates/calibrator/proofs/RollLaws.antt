@@ -12,7 +12,13 @@ use Rattle.table.specs.Opening.{ages}
 use Rattle.acceptance.specs.Record.{scanNumber}
 use Rattle.window.specs.Ages.{noScan, aged, gapBetween}
 use Rattle.calibrator.specs.Feeding.{keptBy}
-use Rattle.calibrator.specs.Roll.{Roll, begun, lastNumber, scanOfAge}
+use Rattle.acceptance.specs.declared.Scan.{Scan}
+use Rattle.calibrator.specs.Roll.{Roll, begun, lastNumber}
+
+-- what the record with age k keeps of its accepted samples; a missing number has none
+unfoldable pub scanOfAge : Settings → Roll → ℕ → ℕ → Scan
+scanOfAge s [] number k = noScan
+scanOfAge s (scan ∷ roll) number k = cond (eqb (scanNumber scan + k) number) (keptBy s scan) (scanOfAge s roll number k)
 
 -- every record's number is at most n
 abbrev pub NumbersTo : Roll → ℕ → Type 0

@@ -1,16 +1,28 @@
 -- The scenes of an accepted feed: one is delivered exactly when the rules say, and is then at most 2 units from E. Read from the
 -- product's bytes: the word of a scene is the bits of the scene that the channel's flag and constants give.
-use Prim.Native.Nat.{ℕ, _+_, _*_, _<_, _≤_}
+use Prim.Native.Nat.{ℕ, zero, suc, _+_, _*_, _<_, _≤_}
 use mathlib.Core.Path.{_≡_, refl, sym, ap, subst, _∙_}
 use mathlib.Core.List.{List, _++_}
 use native.Mathlib.Omega.{arith}
-use mathlib.Core.Bool.{Bool, true, false, false≢true}
-use lib.Dec.{eqb}
+use mathlib.Core.Bool.{Bool, true, false, false≢true, cond}
 use lib.IntN.{ℤ, pos, natAbs, _-ℤ_, _*ℤ_}
 use lib.Signed.{_≤ℤ_}
-use lib.Ieee.{Float, binary32, ofBits}
-use borrow.Author.Tests.{eqb-true}
-use Rattle.integers.specs.Fractions.{_/ᶠ_, Distance}
+use lib.Ieee.{Float, nan, inf, fin, up, down, binary32, ofBits}
+use lib.Ieee.Fits.{down-pos}
+use lib.Ieee.Exact.{HasValue}
+use borrow.Author.Tests.{eqb-true, eq-eqb, ne-eqb}
+use mathlib.Core.List.{[], _∷_}
+use mathlib.Core.Logic.{_⊎_, inl, inr}
+use lib.Dec.{eqb}
+use lib.Signed.{_<ℤ_}
+use lib.IntN.{_+ℤ_}
+use lib.ListN.{getD, replicate}
+use Rattle.integers.specs.Bounds.{Bounded}
+use Rattle.integers.specs.Fractions.{Fraction, _/ᶠ_, whole, _-ᶠ_, Equal, Near, Distance}
+use Rattle.integers.proofs.Ring.{_:+_, _:-_, _:*_, opp, ring, #, v0, v1, v2, v3, v4}
+use Rattle.integers.proofs.Certificate.{_:≤_, _:<_, hyp, nat, _⊕_, _⊗_, lt-by}
+use Rattle.integers.proofs.Order.{below-at-most}
+use Rattle.integers.proofs.Bounds.{bounded-product, bounded-by-itself, bounded-equal}
 use Rattle.integers.proofs.Naturals.{natural-below}
 use Rattle.fields.specs.Numbers.{u16At}
 use Rattle.lists.proofs.Tabulate.{getD-tabulate}
@@ -23,18 +35,95 @@ use Rattle.window.proofs.FlagLaws.{Unflagged, unflagged-flag-zero, flag-zero-un
 use Rattle.scene.specs.declared.Constants.{Constants}
 use Rattle.scene.specs.declared.Scene.{Scene}
 use Rattle.scene.specs.declared.Scene.the-variants.{Kelvin, Flagged, Outside, Guard}
-use Rattle.scene.specs.Scene.{kelvin, bits, units, numerator, sceneOf}
+use Rattle.scene.specs.Scene.{kelvin, bits, numerator, sceneOf}
 use Rattle.scene.specs.Temperature.{temperature}
 use Rattle.scene.proofs.Delivered.{Passes, temperatureOf, N-is-numerator, delivered-exactly-when}
-use Rattle.scene.proofs.Distance.{temperature-distance}
-use Rattle.scene.proofs.Exact.{units-of-kelvin, kelvin-bits-back}
+use Rattle.scene.proofs.Distance.{temperature-distance, one-above}
+use Rattle.integers.proofs.Fractions.{product-above}
+use Rattle.scene.proofs.Exact.{kelvin-exact, kelvin-bits-back}
 use Rattle.product.specs.Scenes.{sceneIn, sceneAt, earthPart, noChannel, delivered}
 use Rattle.product.specs.Product.{productOf}
 use Rattle.product.proofs.Bytes.{scene-in-product}
 use Rattle.product.proofs.Marks as M
-use Rattle.calibrator.specs.Feeding.{earthCounts}
-use Rattle.calibrator.specs.Roll.{Roll, meansAt, channelsAt}
-use Rattle.calibrator.specs.Promise.{ByTheRules, NoMark, SceneClaim, wordAt, unitsAt, nAt, tAt, eAt}
+use Rattle.product.proofs.SummaryLaws.{delivered-count}
+use Rattle.product.specs.Product.{deliveredCount}
+use Rattle.lists.proofs.Sum.{sum-same}
+use Rattle.lists.proofs.Count.{count-same}
+use Rattle.acceptance.specs.declared.Scan.{Scan}
+use Rattle.acceptance.specs.Record.{scanNumber}
+use Rattle.acceptance.proofs.Ranges.{KelvinRange, kept-scan-kelvins}
+use Rattle.window.specs.Ages.{noScan}
+use Rattle.window.specs.Means.{meansFrom}
+use Rattle.window.proofs.SumLaws.{target-sum-at-least}
+use Rattle.window.proofs.FlagLaws.{flag-zero-warm-above, flag-zero-cold-above}
+use Rattle.scene.specs.Unrounded.{unroundedTw}
+use Rattle.scene.proofs.SameFraction.{SameFraction}
+use Rattle.scene.proofs.Equations.{corrected-same}
+use Rattle.integers.proofs.Naturals.{natural-at-most}
+use Rattle.calibrator.specs.Feeding.{keptBy}
+use Rattle.calibrator.specs.Roll.{Roll}
+use Rattle.calibrator.specs.Moments.{Moment, currentNumber, earthCounts, meansAt, channelsAt, productAt, ByTheRules, NoMark, SceneClaim, isDelivered, deliveredIn, wordAt, unitsOf, unitsAt, nAt, tAt, eAt, equationsAt}
+use Rattle.calibrator.proofs.RollLaws.{scanOfAge}
+use Rattle.calibrator.proofs.SampleLaws.{scansAt, means-at-is}
+
+-- ---- a float that is t / 4096 is t units
+value-units : (x : Float) (t : ℕ) → HasValue x false t 4096 → (pos 0 <ℤ unitsOf x .den) × (unitsOf x .num ≡ pos t *ℤ unitsOf x .den)
+value-units nan t h = absurd h
+value-units (inf s) t h = absurd h
+value-units (fin true m e) t h = absurd (false≢true (sym (h .0)))
+value-units (fin false m e) t h = (natural-below (down-pos e), ap pos (h .1))
+
+near-of-distance : {limit e : Fraction} {t : ℤ} (a : Fraction) → pos 0 <ℤ a .den → a .num ≡ t *ℤ a .den → Distance limit t e → Near limit a e
+near-of-distance {limit} {e} {t} a above is h = record {
+  left-above = above;
+  right-above = h .den-above;
+  apart = bounded-equal
+      ((ring ((limit .den) ∷ t ∷ (e .den) ∷ (e .num) ∷ (a .den) ∷ []) (v0 :* (v1 :* v2 :- v3) :* v4) (v0 :* (v1 :* v4 :* v2 :- v3 :* v4)) tt)
+      ∙ ap (λ n. limit .den *ℤ (n *ℤ e .den -ℤ e .num *ℤ a .den)) (sym is))
+      (ring ((limit .num) ∷ (e .den) ∷ (a .den) ∷ []) (v0 :* v1 :* v2) (v0 :* (v2 :* v1)) tt)
+      (bounded-product (h .apart) (bounded-by-itself (below-at-most above)));
+}
+
+times-one : (z : ℤ) → z *ℤ pos 1 ≡ z
+times-one z = ring (z ∷ []) (v0 :* # 1) v0 tt
+
+mark-outside : isDelivered (bits Outside) ≡ false
+unfolding bits
+mark-outside = refl
+
+mark-guard : isDelivered (bits Guard) ≡ false
+unfolding bits
+mark-guard = refl
+
+-- ---- Tw is above Tc: every T is at least 873,062
+all-zero : (n i : ℕ) → getD {A = ℕ} (replicate n 0) i 0 ≡ 0
+all-zero zero i = refl
+all-zero (suc n) zero = refl
+all-zero (suc n) (suc i) = all-zero n i
+
+no-scan-kelvins : (i : ℕ) → KelvinRange (getD (noScan .kelvin) i 0)
+unfolding noScan
+no-scan-kelvins i = inl (all-zero 15 i)
+
+by-age-kelvins : (s : Settings) (roll : Roll) (number k i : ℕ) → KelvinRange (getD (scanOfAge s roll number k .kelvin) i 0)
+unfolding scanOfAge
+by-age-kelvins s [] number k i = no-scan-kelvins i
+by-age-kelvins s (scan ∷ roll) number k i = go (eqb (scanNumber scan + k) number) (by-age-kelvins s roll number k i)
+  where
+    go : (t : Bool) → KelvinRange (getD (scanOfAge s roll number k .kelvin) i 0) → KelvinRange (getD ((cond t (keptBy s scan) (scanOfAge s roll number k)) .kelvin) i 0)
+    go true older = kept-scan-kelvins s scan i
+    go false older = older
+
+none-or-least : {x : ℕ} → KelvinRange x → (x ≡ 0) ⊎ (873062 ≤ x)
+none-or-least (inl z) = inl z
+none-or-least (inr h) = inr (h .0)
+
+weighted-least : (s : Settings) (m : Moment) (c : ℕ) → c < channels → meansAt s m c .weights * 873062 ≤ meansAt s m c .weighted
+unfolding meansFrom
+weighted-least s m c below =
+    subst (λ (sums : Means). sums .weights * 873062 ≤ sums .weighted) (sym (means-at-is s m c below))
+    (target-sum-at-least s (targetOf c) (λ k i. getD (scansAt s m k .kelvin) i 0) 873062
+    (λ k i. none-or-least (by-age-kelvins s (m .standing) (currentNumber m) k i)))
 
 -- ---- the scene of a channel with this flag and these constants
 flag-zero-scene : (s : Settings) (c count : ℕ) (m : Means) → flagOf s (targetOf c) m ≡ 0 → sceneIn (stateOf s c m) count ≡ sceneOf (constantsOf m (s .channel c)) count
@@ -46,28 +135,28 @@ unfolding sceneIn stateOf
 flagged-scene s c count m e = rw e
 
 -- ---- the rules of document 01 are flag 0 and the tests of a scene
-module _ (s : Settings) (roll : Roll) (scan : List ℕ) (c i : ℕ) where
+module _ (s : Settings) (m : Moment) (c i : ℕ) where
   abbrev means : Means
-  means = meansAt s roll c
+  means = meansAt s m c
 
   abbrev constants : Constants
   constants = constantsOf means (s .channel c)
 
   abbrev count : ℕ
-  count = u16At (earthPart (earthCounts scan) c) (2 * i)
+  count = u16At (earthPart (earthCounts (m .scan)) c) (2 * i)
 
-  n-is-numerator : nAt s roll scan c i ≡ numerator constants count
+  n-is-numerator : nAt s m c i ≡ numerator constants count
   unfolding constantsOf
   n-is-numerator = N-is-numerator constants (pos (means .ww)) (pos (means .wc)) (pos (means .ac)) count refl refl
 
-  t-is-temperature : tAt s roll scan c i ≡ temperatureOf constants count
+  t-is-temperature : tAt s m c i ≡ temperatureOf constants count
   unfolding constantsOf
   t-is-temperature = ap (λ n. temperature (Tc (s .channel c)) (Tw means (s .channel c) -ℤ Tc (s .channel c)) (s .channel c .tnl) (D means) n) n-is-numerator
 
-  rules-unflagged : ByTheRules s roll scan c i → Unflagged s (targetOf c) means
+  rules-unflagged : ByTheRules s m c i → Unflagged s (targetOf c) means
   rules-unflagged h = record { thermometers = h .thermometers; warm = h .warm; cold = h .cold; d = h .warmAboveCold }
 
-  rules-pass : ByTheRules s roll scan c i → Passes constants count
+  rules-pass : ByTheRules s m c i → Passes constants count
   unfolding constantsOf
   rules-pass h = record {
     not-negative = subst (λ n. pos 0 ≤ℤ n) n-is-numerator (h .notBelow);
@@ -76,7 +165,7 @@ module _ (s : Settings) (roll : Roll) (scan : List ℕ) (c i : ℕ) where
     guard-high = subst (λ t. t ≤ℤ pos 16777215) t-is-temperature (h .guardHigh);
   }
 
-  pass-rules : Unflagged s (targetOf c) means → Passes constants count → ByTheRules s roll scan c i
+  pass-rules : Unflagged s (targetOf c) means → Passes constants count → ByTheRules s m c i
   unfolding constantsOf
   pass-rules u p = record {
     thermometers = u .thermometers;
@@ -94,15 +183,15 @@ module _ (s : Settings) (roll : Roll) (scan : List ℕ) (c i : ℕ) where
   scene = sceneIn (stateOf s c means) count
 
   -- by the rules it is T
-  rules-scene : ByTheRules s roll scan c i → scene ≡ Kelvin (kelvin (natAbs (temperatureOf constants count)))
+  rules-scene : ByTheRules s m c i → scene ≡ Kelvin (kelvin (natAbs (temperatureOf constants count)))
   rules-scene h =
       flag-zero-scene s c count means (unflagged-flag-zero s (targetOf c) means (rules-unflagged h))
       ∙ delivered-exactly-when constants count .1 (rules-pass h) .0
 
   -- and only by the rules is it a temperature
-  scene-rules : (flag : Bool) → eqb (flagOf s (targetOf c) means) 0 ≡ flag → (x : Float) → scene ≡ Kelvin x → ByTheRules s roll scan c i
-  scene-rules true zero x e =
-      let none = eqb-true (flagOf s (targetOf c) means) 0 zero in
+  scene-rules : (flag : Bool) → eqb (flagOf s (targetOf c) means) 0 ≡ flag → (x : Float) → scene ≡ Kelvin x → ByTheRules s m c i
+  scene-rules true unflagged x e =
+      let none = eqb-true (flagOf s (targetOf c) means) 0 unflagged in
       pass-rules (flag-zero-unflagged s (targetOf c) means none)
       (delivered-exactly-when constants count .0 x (sym (flag-zero-scene s c count means none) ∙ e))
   scene-rules false some x e = absurd (clash (sym (flagged-scene s c count means some) ∙ e))
@@ -110,21 +199,21 @@ module _ (s : Settings) (roll : Roll) (scan : List ℕ) (c i : ℕ) where
       clash : Flagged ≡ Kelvin x → ⊥
       clash q = let z : _≡_ {A = ℕ} 0 1 = cc in omega arith
 
-  delivered-rules : (t : Scene) → t ≡ scene → delivered t ≡ true → ByTheRules s roll scan c i
+  delivered-rules : (t : Scene) → t ≡ scene → delivered t ≡ true → ByTheRules s m c i
   delivered-rules (Kelvin x) e d = scene-rules (eqb (flagOf s (targetOf c) means) 0) refl x (sym e)
   delivered-rules Flagged e d = absurd (false≢true d)
   delivered-rules Outside e d = absurd (false≢true d)
   delivered-rules Guard e d = absurd (false≢true d)
 
   -- ---- and the product's bytes
-  module _ (range : SettingsRange s) (below : c < channels) (inside : i < 96) (number : ℕ) (rest : List ℕ) where
+  module _ (range : SettingsRange s) (below : c < channels) (inside : i < 96) (rest : List ℕ) where
     abbrev product : List ℕ
-    product = productOf number (channelsAt s roll) (earthCounts scan) ++ rest
+    product = productAt s m ++ rest
 
     word-is : wordAt product c i ≡ bits scene
     word-is =
-        scene-in-product number (channelsAt s roll) (earthCounts scan) rest c below i inside
-        ∙ ap (λ (channel : Channel). bits (sceneAt channel (earthPart (earthCounts scan) c) i)) (getD-tabulate (λ c. stateOf s c (meansAt s roll c)) channels c noChannel below)
+        scene-in-product (currentNumber m) (channelsAt s m) (earthCounts (m .scan)) rest c below i inside
+        ∙ ap (λ (channel : Channel). bits (sceneAt channel (earthPart (earthCounts (m .scan)) c) i)) (getD-tabulate (λ c. stateOf s c (meansAt s m c)) channels c noChannel below)
 
     mark-free : NoMark (wordAt product c i) → M.NoMark (bits scene)
     mark-free h = subst M.NoMark word-is (record { not-flagged = h .flagged; not-outside = h .outside; not-guard = h .guard })
@@ -132,27 +221,81 @@ module _ (s : Settings) (roll : Roll) (scan : List ℕ) (c i : ℕ) where
     free-of-marks : M.NoMark (bits scene) → NoMark (wordAt product c i)
     free-of-marks h = let w = subst M.NoMark (sym word-is) h in record { flagged = w .not-flagged; outside = w .not-outside; guard = w .not-guard }
 
-    rules : NoMark (wordAt product c i) → ByTheRules s roll scan c i
+    rules : NoMark (wordAt product c i) → ByTheRules s m c i
     rules h = delivered-rules scene refl (M.delivered-exactly-if-no-mark (stateOf s c means) count .1 (mark-free h))
 
-    delivers : ByTheRules s roll scan c i → NoMark (wordAt product c i)
+    delivers : ByTheRules s m c i → NoMark (wordAt product c i)
     delivers h = free-of-marks (M.delivered-exactly-if-no-mark (stateOf s c means) count .0 (ap delivered (rules-scene h)))
 
-    -- 4096 times the f32 is T
-    units-are : (h : ByTheRules s roll scan c i) → unitsAt product c i ≡ tAt s roll scan c i
+    -- the f32 is that of T
+    float-is : (h : ByTheRules s m c i) → ofBits binary32 (wordAt product c i) ≡ kelvin (natAbs (temperatureOf constants count))
     unfolding bits
+    float-is h = ap (ofBits binary32) (word-is ∙ ap bits (rules-scene h)) ∙ kelvin-bits-back (natAbs (temperatureOf constants count))
+
+    -- 4096 times the f32 is T
+    units-are : (h : ByTheRules s m c i) → (pos 0 <ℤ unitsAt product c i .den) × (unitsAt product c i .num ≡ tAt s m c i *ℤ unitsAt product c i .den)
     units-are h =
         let guard = delivered-exactly-when constants count .1 (rules-pass h) .1 in
-        ap (λ w. pos (units (ofBits binary32 w))) (word-is ∙ ap bits (rules-scene h))
-        ∙ ap (λ x. pos (units x)) (kelvin-bits-back (natAbs (temperatureOf constants count)))
-        ∙ ap pos (units-of-kelvin (natAbs (temperatureOf constants count)) (guard .low) (guard .high))
-        ∙ guard .same
-        ∙ sym t-is-temperature
+        let t = natAbs (temperatureOf constants count) in
+        let is : pos t ≡ tAt s m c i = guard .same ∙ sym t-is-temperature in
+        subst (λ (x : Float). (pos 0 <ℤ unitsOf x .den) × (unitsOf x .num ≡ tAt s m c i *ℤ unitsOf x .den)) (sym (float-is h))
+        (subst (λ z. (pos 0 <ℤ unitsOf (kelvin t) .den) × (unitsOf (kelvin t) .num ≡ z *ℤ unitsOf (kelvin t) .den)) is
+        (value-units (kelvin t) t (kelvin-exact t (guard .low) (guard .high))))
 
-    near-e : (h : ByTheRules s roll scan c i) → Distance (pos 2 /ᶠ pos 1) (unitsAt product c i) (eAt s roll scan c i)
-    near-e h =
-        subst (λ t. Distance (pos 2 /ᶠ pos 1) t (eAt s roll scan c i)) (sym (units-are h))
+    distance-of-t : (h : ByTheRules s m c i) → Distance (pos 2 /ᶠ pos 1) (tAt s m c i) (eAt s m c i)
+    distance-of-t h =
         (temperature-distance (Tc (s .channel c)) (s .channel c .tnl) (pos (means .weighted)) (pos (means .weights)) (s .channel c .b) (h .warmAboveCold) (h .notBelow) (h .notAbove) (range .channel c below .tnl) (natural-below (flag-zero-weights-above range (targetOf c) means (unflagged-flag-zero s (targetOf c) means (rules-unflagged h)))))
 
-    pub scene-claim : SceneClaim s roll scan product c i
-    scene-claim = record { rules = rules; delivered = delivers; distance = λ h. near-e (rules h) }
+    near-e : (h : ByTheRules s m c i) → Near (pos 2 /ᶠ pos 1) (unitsAt product c i) (eAt s m c i)
+    near-e h = near-of-distance (unitsAt product c i) (units-are h .0) (units-are h .1) (distance-of-t h)
+
+    exactly : (h : ByTheRules s m c i) → Equal (unitsAt product c i) (whole (tAt s m c i))
+    exactly h = record { left-above = units-are h .0; right-above = one-above; same = times-one _ ∙ units-are h .1 }
+
+    -- whether it is delivered, by the word and by the scene
+    word-delivered : isDelivered (wordAt product c i) ≡ delivered scene
+    word-delivered = ap isDelivered word-is ∙ tested scene refl
+      where
+        tested : (x : Scene) → x ≡ scene → isDelivered (bits x) ≡ delivered x
+        tested (Kelvin x) e =
+            let none = M.delivered-exactly-if-no-mark (stateOf s c means) count .0 (sym (ap delivered e)) in
+            let here = subst (λ (y : Scene). M.NoMark (bits y)) (sym e) none in
+            rw (ne-eqb (bits (Kelvin x)) (bits Flagged) (here .not-flagged), ne-eqb (bits (Kelvin x)) (bits Outside) (here .not-outside), ne-eqb (bits (Kelvin x)) (bits Guard) (here .not-guard))
+        tested Flagged e = rw (eq-eqb (bits Flagged) (bits Flagged) refl)
+        tested Outside e = mark-outside
+        tested Guard e = mark-guard
+
+    -- E by the equations
+    flag-zero : ByTheRules s m c i → flagOf s (targetOf c) means ≡ 0
+    flag-zero h = unflagged-flag-zero s (targetOf c) means (rules-unflagged h)
+
+    rise-above : (h : ByTheRules s m c i) → pos 0 <ℤ (unroundedTw (pos (means .weighted)) (pos (means .weights)) (s .channel c .b) -ᶠ whole (Tc (s .channel c))) .num
+    rise-above h =
+        let row = range .channel c below in
+        let least : 873062 * means .weights ≤ means .weighted = omega (arith, weighted-least s m c below) in
+        let cold : 11166 + s .channel c .rj + s .channel c .sl ≤ 43934 = omega (arith, row .rj, row .sl) in
+        lt-by ((pos (means .weighted)) ∷ (pos (means .weights)) ∷ (s .channel c .b) ∷ (Tc (s .channel c)) ∷ [])
+        ((# 0 :< v1) ∷ (# 873062 :* v1 :≤ v0) ∷ (opp (# 4096) :≤ v2) ∷ (v3 :≤ # 43934) ∷ [])
+        (# 0) ((v0 :* # 1 :+ v2 :* v1) :* # 1 :- v3 :* (v1 :* # 1))
+        (hyp 0 ⊕ nat 825032 ⊗ hyp 1 ⊕ hyp 2 ⊕ hyp 3 ⊕ hyp 4 ⊕ hyp 1 ⊗ hyp 3 ⊕ hyp 1 ⊗ hyp 4)
+        tt (natural-below (flag-zero-weights-above range (targetOf c) means (flag-zero h))) (natural-at-most least) (row .b .low) (natural-at-most cold)
+
+    by-equations : (h : ByTheRules s m c i) → Equal (equationsAt s m c i) (eAt s m c i)
+    by-equations h =
+        let z = flag-zero h in
+        let same = corrected-same (pos (means .aw)) (pos (means .ac)) (pos count) (Tc (s .channel c)) (s .channel c .tnl) (unroundedTw (pos (means .weighted)) (pos (means .weights)) (s .channel c .b))
+        (natural-below (flag-zero-warm-above range (targetOf c) means z)) (natural-below (flag-zero-cold-above range (targetOf c) means z)) (h .warmAboveCold)
+        (product-above (natural-below (flag-zero-weights-above range (targetOf c) means z)) one-above) (rise-above h) in
+        record { left-above = same .left-above; right-above = same .right-above; same = same .same }
+
+    pub scene-claim : SceneClaim s m product c i
+    scene-claim = record { rules = rules; delivers = delivers; exact = λ h. exactly (rules h); distance = λ h. near-e (rules h); equations = λ h. by-equations (rules h) }
+
+-- the delivered scenes of a product are as many as its answer says
+module _ (s : Settings) (m : Moment) (range : SettingsRange s) (rest : List ℕ) where
+  pub delivered-in : deliveredCount (channelsAt s m) (earthCounts (m .scan)) ≡ deliveredIn (productAt s m ++ rest)
+  delivered-in =
+      delivered-count (channelsAt s m) (earthCounts (m .scan))
+      ∙ sum-same _ _ channels (λ c below. count-same _ _ 96 (λ i inside.
+      ap (λ (channel : Channel). delivered (sceneAt channel (earthPart (earthCounts (m .scan)) c) i)) (getD-tabulate (λ c. stateOf s c (meansAt s m c)) channels c noChannel below)
+      ∙ sym (word-delivered s m c i range below inside rest)))

@@ -18,7 +18,7 @@ use Rattle.scene.specs.Temperature.{outside}
 use Rattle.product.specs.Product.{u16Bytes, u32Bytes, fieldBytes}
 use Rattle.calibrator.specs.declared.Calibrator.{Calibrator}
 use Rattle.calibrator.specs.Feeding.{freshOf}
-use Rattle.calibrator.specs.Promise.{dAt, nAt, tAt}
+use Rattle.calibrator.specs.Moments.{Moment, dAt, nAt, tAt}
 
 -- ---- the bench table
 
@@ -104,15 +104,18 @@ abbrev pub ratioAt : ℤ → ℤ
 ratioAt t = F 3850000 1500000 0 t
 
 -- scene i of channel c, in the bench scan with this earth count
+abbrev pub benchMoment : ℕ → Moment
+benchMoment earth = record { standing = benchScan earth ∷ []; scan = benchScan earth }
+
 module _ (earth c i : ℕ) where
   abbrev pub benchD : ℤ
-  benchD = dAt benchSettings (benchScan earth ∷ []) (benchScan earth) c i
+  benchD = dAt benchSettings (benchMoment earth) c i
 
   abbrev pub benchN : ℤ
-  benchN = nAt benchSettings (benchScan earth ∷ []) (benchScan earth) c i
+  benchN = nAt benchSettings (benchMoment earth) c i
 
   abbrev pub benchT : ℤ
-  benchT = tAt benchSettings (benchScan earth ∷ []) (benchScan earth) c i
+  benchT = tAt benchSettings (benchMoment earth) c i
 
 -- every scene of the bench scan with this earth count is outside
 abbrev pub AllOutside : ℕ → Type 0

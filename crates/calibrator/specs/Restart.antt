@@ -6,23 +6,14 @@ use mathlib.Core.List.{List, [], _∷_, _++_}
 use mathlib.Core.Bool.{cond}
 use lib.Dec.{ltb}
 use lib.ListN.{length}
+use Rattle.lists.specs.Tests.{passes}
 use Rattle.fields.specs.Fields.{layoutSize}
 use Rattle.table.specs.Opening.{ages}
 use Rattle.acceptance.specs.Record.{scanNumber}
 use Rattle.product.specs.Product.{productLayout}
 use Rattle.calibrator.specs.declared.Calibrator.{Calibrator}
-use Rattle.calibrator.specs.declared.Verdict.the-variants.{Passes}
-use Rattle.calibrator.specs.Feeding.{fedOf}
-use Rattle.calibrator.specs.Roll.{Feed, Outcome, Roll, verdictAt, joined}
-use Rattle.calibrator.specs.Promise.{outcomeIn}
-
--- the calibrator after a list of feeds, and what a feed then leaves
-unfoldable pub calibratorAfter : Calibrator → List Feed → Calibrator
-calibratorAfter c [] = c
-calibratorAfter c (feed ∷ more) = calibratorAfter (fedOf c (feed .scan) (length (feed .buffer)) .calibrator) more
-
-abbrev pub outcomeAfter : Calibrator → List Feed → Feed → Outcome
-outcomeAfter c feeds feed = outcomeIn (calibratorAfter c feeds) feed
+use Rattle.calibrator.specs.Roll.{Feed, Roll, verdictAt, joined}
+use Rattle.calibrator.specs.Feeding.{outcomeAfter}
 
 -- the roll after a list of feeds
 unfoldable pub rolledBy : Roll → List Feed → Roll
@@ -41,5 +32,5 @@ feedsOf buffer (scan ∷ roll) = feedsOf buffer roll ++ (record { scan = scan; b
 
 -- for every list of feeds, every accepted feed after it, and every buffer that is long enough for the records that are fed again
 pub record Restart (fresh : Calibrator) : Type 0 where
-  pub same : (before : List Feed) (feed : Feed) (buffer : List ℕ) → layoutSize productLayout ≤ length buffer → verdictAt (rolledBy [] before) feed ≡ Passes
+  pub same : (before : List Feed) (feed : Feed) (buffer : List ℕ) → layoutSize productLayout ≤ length buffer → verdictAt (rolledBy [] before) feed ≡ passes
       → outcomeAfter fresh before feed ≡ outcomeAfter fresh (feedsOf buffer (recent (scanNumber (feed .scan)) (rolledBy [] before))) feed

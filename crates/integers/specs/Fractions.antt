@@ -40,6 +40,18 @@ a ≤ᶠ b = (a .num *ℤ b .den) ≤ℤ (b .num *ℤ a .den)
 abbrev pub _<ᶠ_ : Fraction → Fraction → Type 0
 a <ᶠ b = (a .num *ℤ b .den) <ℤ (b .num *ℤ a .den)
 
+-- a and b are equal
+pub record Equal (a b : Fraction) : Type 0 where
+  pub left-above : pos 0 <ℤ a .den
+  pub right-above : pos 0 <ℤ b .den
+  pub same : a ≡ᶠ b
+
+-- a and b are at most `limit` apart
+pub record Near (limit a b : Fraction) : Type 0 where
+  pub left-above : pos 0 <ℤ a .den
+  pub right-above : pos 0 <ℤ b .den
+  pub apart : Bounded (limit .den *ℤ (a .num *ℤ b .den -ℤ b .num *ℤ a .den)) (limit .num *ℤ (a .den *ℤ b .den))
+
 -- the whole number t is at most `limit` from e
 pub record Distance (limit : Fraction) (t : ℤ) (e : Fraction) : Type 0 where
   pub den-above : pos 0 <ℤ e .den

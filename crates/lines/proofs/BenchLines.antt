@@ -1,9 +1,9 @@
 -- The lines that document 01 shows.
-use Prim.Native.Nat.{ℕ, _+_, _%_, _<_}
+use Prim.Native.Nat.{ℕ, _+_, _%_, _<_, _≤_}
 use native.Mathlib.Omega.{arith}
 use mathlib.Core.Path.{_≡_, sym, ap, ap₂, _∙_}
 use mathlib.Core.List.{List, _++_}
-use lib.ListN.{getD, drop, replicate, length-replicate, getD-replicate}
+use lib.ListN.{length, getD, drop, replicate, length-replicate, getD-replicate}
 use lib.Seq.{getD-take, getD-drop}
 use Rattle.lists.specs.Build.{tabulate}
 use Rattle.lists.proofs.Tabulate.{tabulate-same}
@@ -12,11 +12,12 @@ use Rattle.window.specs.declared.Channel.{Channel}
 use Rattle.product.specs.Scenes.{noChannel}
 use Rattle.product.specs.Product.{productOf}
 use Rattle.product.proofs.Bytes.{number-in-product, flag-in-product}
-use Rattle.calibrator.specs.Feeding.{earthCounts}
+use Rattle.calibrator.specs.Moments.{earthCounts}
+use Rattle.calibrator.specs.Feeding.{Outcome}
 use Rattle.calibrator.specs.Bench.{benchScan, benchCalibrator, benchChannel}
-use Rattle.calibrator.proofs.BenchFeed.{bench-buffer, bench-answer}
-use Rattle.lines.specs.Lines.{ascii, decimal, flagDigits, refusedLine, scanLine, numberIn, flagsIn, answerLine}
-use Rattle.lines.specs.Steps.{productSize, emptyProduct, listedLine}
+use Rattle.calibrator.proofs.BenchFeed.{bench-outcome, bench-reply}
+use Rattle.lines.specs.Lines.{ascii, decimal, flagDigits, refusedLine, scanLine, numberIn, flagsIn, replyLine}
+use Rattle.lines.specs.Steps.{emptyProduct, listedLine}
 use Rattle.lines.proofs.DecimalLaws.{digits-are-decimal}
 
 six : decimal 6 ≡ ascii "6"
@@ -61,8 +62,9 @@ flag-listed c below =
     ∙ ap (λ (channel : Channel). channel .flag) (getD-replicate 22 c benchChannel noChannel below)
 
 pub bench-listing : listedLine benchCalibrator (benchScan 15000) ≡ ascii "scan 7 delivered 2112 flags 0000000000000000000000\n"
-unfolding listedLine emptyProduct answerLine
+unfolding listedLine emptyProduct replyLine
 bench-listing =
-    ap₂ answerLine (bench-answer productSize (omega arith)) (bench-buffer 15000 emptyProduct (omega (arith, length-replicate {A = ℕ} 8706 0)))
+    let room : 8706 ≤ length emptyProduct = omega (arith, length-replicate {A = ℕ} 8706 0) in
+    ap₂ replyLine (bench-reply emptyProduct room) (ap (λ (o : Outcome). o .buffer) (bench-outcome 15000 emptyProduct room))
     ∙ ap (λ (number : ℕ). scanLine number 2112 (flagsIn benchProduct)) number-listed
     ∙ bench-line (flagsIn benchProduct) flag-listed

@@ -1,19 +1,23 @@
--- A line that is written part by part at the front of a buffer, and the line of a refused feed.
+-- A line that is written part by part at the front of a buffer, the line of a refused feed, and that what a buffer held changes nothing else.
 use Prim.Native.Nat.{ℕ, _+_, _≤_}
 use native.Mathlib.Nat.{zero-add}
 use native.Mathlib.Omega.{arith}
-use mathlib.Core.Path.{_≡_, sym, ap, subst, _∙_}
+use mathlib.Core.Path.{_≡_, refl, sym, ap, subst, _∙_}
 use mathlib.Core.List.{List, _++_, append-assoc}
 use lib.ListN.{length, length-append, length-take}
 use Rattle.io.specs.Counts.{Counts}
 use Rattle.lists.specs.Build.{put}
+use Rattle.lists.specs.Tests.{Verdict, passes, fails}
 use Rattle.lists.proofs.Put.{length-put, put-after-put}
 use Rattle.calibrator.specs.declared.Answer.{Answer}
 use Rattle.calibrator.specs.declared.Answer.the-variants.{Refused}
 use Rattle.calibrator.specs.declared.Refusal.{Refusal}
-use Rattle.calibrator.specs.Refusals.{numberOf}
-use Rattle.calibrator.specs.FeedList.{answerNumber}
-use Rattle.lines.specs.Lines.{refusedLine, answerLine}
+use Rattle.calibrator.specs.declared.Calibrator.{Calibrator}
+use Rattle.calibrator.specs.Refusals.{verdict, refusalNumber, replyOf}
+use Rattle.calibrator.specs.Roll.{Feed}
+use Rattle.calibrator.specs.Feeding.{verdictIn, stepBy, step}
+use Rattle.calibrator.specs.FeedList.{replyNumber}
+use Rattle.lines.specs.Lines.{refusedLine, replyLine}
 use Rattle.lines.specs.Steps.{errorLine}
 
 -- what stands at the front of a buffer that held b, and where it ends
@@ -43,14 +47,35 @@ module _ {b line out : List ℕ} {end : ℕ} (begun : Begun b line out end) (fit
 
 -- ---- the line of a refused feed has the number of its refusal
 
-module _ {answer : Answer} {refusal : Refusal} {number : ℕ} (refused : answer ≡ Refused refusal) (numbered : number ≡ answerNumber answer) where
-  number-of-refusal : refusedLine number ≡ refusedLine (numberOf refusal)
-  number-of-refusal = ap refusedLine (numbered ∙ ap answerNumber refused)
+module _ {answer : Answer} {refusal : Refusal} {number : ℕ} (refuses : answer ≡ Refused refusal) (numbered : number ≡ replyNumber (replyOf answer)) where
+  number-of-refusal : refusedLine number ≡ refusedLine (refusalNumber refusal)
+  number-of-refusal = ap refusedLine (numbered ∙ ap (λ (a : Answer). replyNumber (replyOf a)) refuses)
 
-  pub refused-line-of-answer : (product : List ℕ) → refusedLine number ≡ answerLine answer product
-  unfolding answerLine
-  refused-line-of-answer product = rw refused number-of-refusal
+  pub refused-line-of-answer : (product : List ℕ) → refusedLine number ≡ replyLine (replyOf answer) product
+  unfolding replyLine
+  refused-line-of-answer product = rw refuses number-of-refusal
 
-  pub refused-line-of-error : refusedLine number ≡ errorLine answer
+  pub refused-line-of-error : refusedLine number ≡ errorLine (replyOf answer)
   unfolding errorLine
-  refused-line-of-error = rw refused number-of-refusal
+  refused-line-of-error = rw refuses number-of-refusal
+
+-- ---- what a buffer held changes neither the answer nor the calibrator
+
+module _ (c : Calibrator) (scan buffer other : List ℕ) where
+  abbrev inBuffer : List ℕ → Feed
+  inBuffer b = record { scan = scan; buffer = b }
+
+  same-by : (v : Verdict) → (stepBy v c (inBuffer buffer) .calibrator ≡ stepBy v c (inBuffer other) .calibrator) × (stepBy v c (inBuffer buffer) .outcome .reply ≡ stepBy v c (inBuffer other) .outcome .reply)
+  unfolding stepBy
+  same-by passes = (refl, refl)
+  same-by (fails n) = (refl, refl)
+
+  module _ (long : length buffer ≡ length other) where
+    same-verdict : verdictIn c (inBuffer buffer) ≡ verdictIn c (inBuffer other)
+    same-verdict = ap (λ (n : ℕ). verdict (c .window .any) (c .window .last) scan n) long
+
+    pub calibrator-of-length : step c (inBuffer buffer) .calibrator ≡ step c (inBuffer other) .calibrator
+    calibrator-of-length = ap (λ (v : Verdict). stepBy v c (inBuffer buffer) .calibrator) same-verdict ∙ same-by (verdictIn c (inBuffer other)) .0
+
+    pub reply-of-length : step c (inBuffer buffer) .outcome .reply ≡ step c (inBuffer other) .outcome .reply
+    reply-of-length = ap (λ (v : Verdict). stepBy v c (inBuffer buffer) .outcome .reply) same-verdict ∙ same-by (verdictIn c (inBuffer other)) .1

@@ -17,9 +17,7 @@ use Rattle.table.specs.declared.Opening.the-variants.{Accepted as TableAccepted
 use Rattle.table.specs.Opening.{refusal}
 use Rattle.table.specs.Settings.{channels}
 use Rattle.product.specs.Product.{productLayout}
-use Rattle.calibrator.specs.declared.Answer.{Answer}
-use Rattle.calibrator.specs.declared.Answer.the-variants.{Accepted, Refused}
-use Rattle.calibrator.specs.Refusals.{numberOf}
+use Rattle.calibrator.specs.Refusals.{Reply, delivered, refused}
 
 -- the bytes of a text in ASCII: each character's number
 abbrev pub ascii : text.String → List ℕ
@@ -42,8 +40,8 @@ unfoldable pub flagDigits : List ℕ → List ℕ
 flagDigits flags = tabulate (λ c. 48 + getD flags c 0 % 10) channels
 
 unfoldable pub scanLine : ℕ → ℕ → List ℕ → List ℕ
-scanLine number delivered flags =
-    ascii "scan " ++ decimal number ++ ascii " delivered " ++ decimal delivered ++ ascii " flags " ++ flagDigits flags ++ ascii "\n"
+scanLine number count flags =
+    ascii "scan " ++ decimal number ++ ascii " delivered " ++ decimal count ++ ascii " flags " ++ flagDigits flags ++ ascii "\n"
 
 -- of a product: the value of field 0x20 as a number, and the value of field 0x21
 abbrev pub numberIn : List ℕ → ℕ
@@ -53,9 +51,9 @@ abbrev pub flagsIn : List ℕ → List ℕ
 flagsIn product = take channels (drop (valueStart productLayout 1) product)
 
 -- the line of a feed's answer and the product that it left
-unfoldable pub answerLine : Answer → List ℕ → List ℕ
-answerLine (Accepted delivered) product = scanLine (numberIn product) delivered (flagsIn product)
-answerLine (Refused refusal) product = refusedLine (numberOf refusal)
+unfoldable pub replyLine : Reply → List ℕ → List ℕ
+replyLine (delivered n) product = scanLine (numberIn product) n (flagsIn product)
+replyLine (refused n) product = refusedLine n
 
 -- the line of a table's opening; an accepted table has none
 unfoldable pub openingLine : Opening → List ℕ

@@ -7,48 +7,50 @@ use lib.ListN.{length, replicate}
 use Rattle.fields.specs.Fields.{layoutSize}
 use Rattle.product.specs.Product.{productLayout}
 use Rattle.calibrator.specs.declared.Calibrator.{Calibrator}
-use Rattle.calibrator.specs.declared.Answer.{Answer}
-use Rattle.calibrator.specs.declared.Answer.the-variants.{Accepted, Refused}
-use Rattle.calibrator.specs.Refusals.{numberOf}
-use Rattle.calibrator.specs.Feeding.{fedOf, bufferOf}
+use Rattle.calibrator.specs.Refusals.{Reply, delivered, refused}
+use Rattle.calibrator.specs.Feeding.{Stepped, step}
 use Rattle.lines.specs.declared.Listed.{Listed}
 use Rattle.lines.specs.declared.Calibrated.{Calibrated}
-use Rattle.lines.specs.Lines.{refusedLine, answerLine}
+use Rattle.lines.specs.Lines.{refusedLine, replyLine}
 
 abbrev pub productSize : ℕ
 productSize = layoutSize productLayout
-
--- ---- listing
 
 -- the buffer that the product is written to
 unfoldable pub emptyProduct : List ℕ
 emptyProduct = replicate productSize 0
 
+-- the feed of a record; what the buffer held changes only the buffer that is left
+abbrev pub recordFed : Calibrator → List ℕ → Stepped
+recordFed c scan = step c (record { scan = scan; buffer = emptyProduct })
+
+-- ---- listing
+
 -- the line of a record
 unfoldable pub listedLine : Calibrator → List ℕ → List ℕ
-listedLine c scan = answerLine (fedOf c scan productSize .answer) (bufferOf c scan emptyProduct)
+listedLine c scan = replyLine (recordFed c scan .outcome .reply) (recordFed c scan .outcome .buffer)
 
 unfoldable pub listedOf : Calibrator → List ℕ → Listed
-listedOf c scan = record { calibrator = fedOf c scan productSize .calibrator; size = length (listedLine c scan) }
+listedOf c scan = record { calibrator = recordFed c scan .calibrator; size = length (listedLine c scan) }
 
 -- ---- calibrate
 
 -- how many bytes of the product's buffer are written
-unfoldable pub outputSize : Answer → ℕ
-outputSize (Accepted delivered) = productSize
-outputSize (Refused refusal) = 0
+unfoldable pub outputSize : Reply → ℕ
+outputSize (delivered n) = productSize
+outputSize (refused n) = 0
 
 -- the line of a refused feed; an accepted one has none
-unfoldable pub errorLine : Answer → List ℕ
-errorLine (Accepted delivered) = []
-errorLine (Refused refusal) = refusedLine (numberOf refusal)
+unfoldable pub errorLine : Reply → List ℕ
+errorLine (delivered n) = []
+errorLine (refused n) = refusedLine n
 
 unfoldable pub calibratedLine : Calibrator → List ℕ → List ℕ
-calibratedLine c scan = errorLine (fedOf c scan productSize .answer)
+calibratedLine c scan = errorLine (recordFed c scan .outcome .reply)
 
 unfoldable pub calibratedOf : Calibrator → List ℕ → Calibrated
 calibratedOf c scan = record {
-  calibrator = fedOf c scan productSize .calibrator;
-  output = outputSize (fedOf c scan productSize .answer);
+  calibrator = recordFed c scan .calibrator;
+  output = outputSize (recordFed c scan .outcome .reply);
   errors = length (calibratedLine c scan);
 }

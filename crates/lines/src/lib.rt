@@ -5,8 +5,9 @@ ghost use Prim.Native.Nat.{_+_, _≤_};
 ghost use lib.ListN.{length};
 ghost use Rattle.io.specs.Counts.{Counts};
 ghost use Rattle.lists.specs.Build.{put};
-ghost use Rattle.calibrator.specs.Feeding.{Sound, bufferOf};
-ghost use Rattle.lines.specs.Lines.{decimal, refusedLine, flagDigits, scanLine, answerLine, openingLine};
+ghost use Rattle.calibrator.specs.Refusals.{replyOf};
+ghost use Rattle.calibrator.specs.Feeding.{step, Sound};
+ghost use Rattle.lines.specs.Lines.{decimal, refusedLine, flagDigits, scanLine, replyLine, openingLine};
 ghost use Rattle.lines.specs.Steps.{listedLine, listedOf, calibratedLine, calibratedOf};
 use calibrator::Answer;
 use calibrator::Calibrator;
@@ -103,7 +104,7 @@ fn scan_line(number: u32, delivered: u32, flags: &[u8], out: &mut [u8; LONGEST])
 // The line of a feed's answer; of an accepted one, `product` is what it left.
 pub fn answer_line(answer: Answer, product: &[u8; 8706], out: &mut [u8; LONGEST]) -> usize
     ensures { λ r. ⌜ Counts r (now (out .exit)) ⌝ }
-    ensures { λ r. ⌜ (r ≡ length (answerLine answer (now (product .entry)))) × (now (out .exit) ≡ put (now (out .entry)) 0 (answerLine answer (now (product .entry)))) ⌝ }
+    ensures { λ r. ⌜ (r ≡ length (replyLine (replyOf answer) (now (product .entry)))) × (now (out .exit) ≡ put (now (out .entry)) 0 (replyLine (replyOf answer) (now (product .entry)))) ⌝ }
 {
     match answer {
         Answer::Accepted(delivered) => {
@@ -157,7 +158,7 @@ pub fn calibrate_record(
     requires { ⌜ Sound calibrator ⌝ }
     ensures { λ r. ⌜ Counts (r .output) (now (product .exit)) ⌝ }
     ensures { λ r. ⌜ Counts (r .errors) (now (line .exit)) ⌝ }
-    ensures { λ r. ⌜ (r ≡ calibratedOf calibrator (now (scan .entry))) × (now (product .exit) ≡ bufferOf calibrator (now (scan .entry)) (now (product .entry))) × (now (line .exit) ≡ put (now (line .entry)) 0 (calibratedLine calibrator (now (scan .entry)))) × Sound (r .calibrator) ⌝ }
+    ensures { λ r. ⌜ (r ≡ calibratedOf calibrator (now (scan .entry))) × (now (product .exit) ≡ step calibrator (record { scan = now (scan .entry); buffer = now (product .entry) }) .outcome .buffer) × (now (line .exit) ≡ put (now (line .entry)) 0 (calibratedLine calibrator (now (scan .entry)))) × Sound (r .calibrator) ⌝ }
 {
     let fed = calibrator.feed(scan, product);
     let answer = fed.answer;

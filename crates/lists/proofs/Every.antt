@@ -1,5 +1,5 @@
--- Whether all of a row of tests hold: one more, each of them, the early end.
-use Prim.Native.Nat.{ℕ, zero, suc, _+_, _<_}
+-- Whether all of a row of tests hold: one more, each of them, the front of them, the early end.
+use Prim.Native.Nat.{ℕ, zero, suc, _+_, _<_, _≤_}
 use native.Mathlib.Decide.{decLt}
 use native.Mathlib.Numerals.{add-one}
 use native.Mathlib.Omega.{arith}
@@ -42,6 +42,12 @@ module _ (holds : ℕ → Bool) where
       go (no k) earlier last =
           let e : i ≡ n = omega arith in
           ap holds e ∙ last
+
+  -- and all of its front
+  pub every-of-more : (m n : ℕ) → every holds n ≡ true → m ≤ n → every holds m ≡ true
+  unfolding every
+  every-of-more zero n h l = refl
+  every-of-more (suc m) n h l = and-eq-true-iff (every holds m) (holds m) .1 (every-of-more m n h (omega arith), each-of-every n m h (omega arith))
 
 pub every-same : (holds also : ℕ → Bool) (n : ℕ) → ((i : ℕ) → i < n → holds i ≡ also i) → every holds n ≡ every also n
 unfolding every

@@ -1,3 +1,4 @@
 pub mod Build
 pub mod Count
 pub mod Sum
+pub mod Tests

@@ -1,7 +1,7 @@
 -- `answer_line` meets its contract: the line of an accepted answer has the number and the flags from the product's bytes, and that of a
 -- refused one the refusal's number.
 use denote.Ref.{now}
-use Rattle.lines.specs.Lines.{answerLine}
+use Rattle.lines.specs.Lines.{replyLine}
 use Rattle.lines.proofs.LineLaws.{refused-line-of-answer}
 use borrow.Author.Needs.{needs}
 use Rattle.lines.proofs.answer_line.Statement.{statement}
@@ -35,7 +35,7 @@ refused-line-requires : tie.Need-refused-line-requires
 refused-line-requires c κs = search needs
 
 returns : tie.Need-returns
-unfolding answerLine
+unfolding replyLine
 returns c =
     let known = c .before .before .before .before .before in
     rw (known .before .answer .given .1, ← c .before .before .before .u32-at .ensures) (c .scan-line .ensures)

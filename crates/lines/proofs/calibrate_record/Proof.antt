@@ -2,16 +2,15 @@
 use Prim.Native.Nat.{ℕ}
 use native.Mathlib.Omega.{arith}
 use mathlib.Core.Path.{_≡_, refl, sym, ap, ap₂, _∙_}
-use lib.ListN.{length, length-take}
+use lib.ListN.{length, length-take, length-replicate}
 use denote.Ref.{now}
 use Rattle.lists.specs.Build.{put}
 use Rattle.calibrator.specs.declared.Calibrator.{Calibrator}
 use Rattle.calibrator.specs.declared.Answer.{Answer}
-use Rattle.calibrator.specs.declared.Fed.{Fed}
-use Rattle.calibrator.specs.Feeding.{fedOf}
+use Rattle.calibrator.specs.Refusals.{Reply, replyOf}
 use Rattle.lines.specs.declared.Calibrated.{Calibrated}
-use Rattle.lines.specs.Steps.{productSize, outputSize, errorLine, calibratedLine, calibratedOf}
-use Rattle.lines.proofs.LineLaws.{refused-line-of-error}
+use Rattle.lines.specs.Steps.{productSize, emptyProduct, recordFed, outputSize, errorLine, calibratedLine, calibratedOf}
+use Rattle.lines.proofs.LineLaws.{refused-line-of-error, calibrator-of-length, reply-of-length}
 use borrow.Author.Needs.{needs}
 use Rattle.lines.proofs.calibrate_record.Statement.{statement}
 use Rattle.lines.proofs.calibrate_record.Tie as tie
@@ -19,26 +18,31 @@ use Rattle.lines.proofs.calibrate_record.Tie as tie
 length-product : (c : tie.After-feed-arg) → length (now (c .before .before .args .product)) ≡ productSize
 length-product c = omega arith
 
-fed-is : (c : tie.After-feed)
-    → let a = c .before .before .before .args in
-    c .feed .result ≡ fedOf (a .calibrator) (now (a .scan)) productSize
-fed-is c =
-    let a = c .before .before .before .args in
-    c .feed .ensures .0 ∙ ap (fedOf (a .calibrator) (now (a .scan))) (length-product (c .before))
+-- with a buffer of this length the calibrator and the answer are those of the definitions
+module _ (c : tie.After-feed) where
+  same-length : length (now (c .before .before .before .args .product)) ≡ length emptyProduct
+  unfolding emptyProduct
+  same-length = length-product (c .before) ∙ sym (length-replicate {A = ℕ} productSize 0)
+
+  calibrator-is : let a = c .before .before .before .args in c .feed .result .calibrator ≡ recordFed (a .calibrator) (now (a .scan)) .calibrator
+  calibrator-is = let a = c .before .before .before .args in c .feed .ensures .0 .calibrator-is ∙ calibrator-of-length (a .calibrator) (now (a .scan)) (now (a .product)) emptyProduct same-length
+
+  reply-is : let a = c .before .before .before .args in replyOf (c .feed .result .answer) ≡ recordFed (a .calibrator) (now (a .scan)) .outcome .reply
+  reply-is = let a = c .before .before .before .args in c .feed .ensures .0 .reply-is ∙ reply-of-length (a .calibrator) (now (a .scan)) (now (a .product)) emptyProduct same-length
 
 -- the sizes by an answer
-abbrev answered : Calibrator → Answer → Calibrated
-answered next answer = record { calibrator = next; output = outputSize answer; errors = length (errorLine answer) }
+abbrev answered : Calibrator → Reply → Calibrated
+answered next reply = record { calibrator = next; output = outputSize reply; errors = length (errorLine reply) }
 
 module _ (c : tie.After-feed) where
   step-of-feed : let a = c .before .before .before .args in
-      answered (c .feed .result .calibrator) (c .feed .result .answer) ≡ calibratedOf (a .calibrator) (now (a .scan))
+      answered (c .feed .result .calibrator) (replyOf (c .feed .result .answer)) ≡ calibratedOf (a .calibrator) (now (a .scan))
   unfolding calibratedOf calibratedLine
-  step-of-feed = ap (λ (f : Fed). answered (f .calibrator) (f .answer)) (fed-is c)
+  step-of-feed = ap₂ answered (calibrator-is c) (reply-is c)
 
-  line-of-feed : let a = c .before .before .before .args in errorLine (c .feed .result .answer) ≡ calibratedLine (a .calibrator) (now (a .scan))
+  line-of-feed : let a = c .before .before .before .args in errorLine (replyOf (c .feed .result .answer)) ≡ calibratedLine (a .calibrator) (now (a .scan))
   unfolding calibratedLine
-  line-of-feed = ap (λ (f : Fed). errorLine (f .answer)) (fed-is c)
+  line-of-feed = ap errorLine (reply-is c)
 
 feed-requires : tie.Need-feed-requires
 feed-requires c κs = search needs
@@ -60,16 +64,16 @@ unfolding outputSize errorLine
 returns c =
     let fed = c .before .before .before in
     let a = fed .before .before .before .args in
-    let told = sym (c .enum-told .given .1) in
+    let told = ap replyOf (sym (c .enum-told .given .1)) in
     let long : length (fed .feed .last .1 .1 .0) ≡ productSize = fed .feed .kept .1 .1 .0 ∙ length-product (fed .before) in (
       (omega arith, simp length-take (omega arith)),
       (
         (omega arith, refl),
         (
           ap (answered (fed .feed .result .calibrator)) told ∙ step-of-feed fed,
+          fed .feed .ensures .0 .buffer-is,
+          ap (λ (reply : Reply). put (now (a .line)) 0 (errorLine reply)) told ∙ ap (put (now (a .line)) 0) (line-of-feed fed),
           fed .feed .ensures .1,
-          ap (λ (answer : Answer). put (now (a .line)) 0 (errorLine answer)) told ∙ ap (put (now (a .line)) 0) (line-of-feed fed),
-          fed .feed .ensures .2,
         ),
       ),
     )
@@ -86,11 +90,11 @@ returns-2 c =
         c .refused-line .ensures .0,
         (
           ap₂ (λ (output errors : ℕ). record { calibrator = fed .feed .result .calibrator; output = output; errors = errors })
-              (ap outputSize (sym (told .enum-told2 .given .1))) (c .refused-line .ensures .1 .0 ∙ ap length line)
+              (ap (λ (answer : Answer). outputSize (replyOf answer)) (sym (told .enum-told2 .given .1))) (c .refused-line .ensures .1 .0 ∙ ap length line)
               ∙ step-of-feed fed,
-          fed .feed .ensures .1,
+          fed .feed .ensures .0 .buffer-is,
           c .refused-line .ensures .1 .1 ∙ ap (put (now (a .line)) 0) (line ∙ line-of-feed fed),
-          fed .feed .ensures .2,
+          fed .feed .ensures .1,
         ),
       ),
     )

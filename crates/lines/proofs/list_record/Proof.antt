@@ -5,8 +5,8 @@ use lib.ListN.{length}
 use denote.Ref.{now}
 use Rattle.lists.specs.Build.{put}
 use Rattle.calibrator.specs.declared.Calibrator.{Calibrator}
-use Rattle.calibrator.specs.declared.Fed.{Fed}
-use Rattle.lines.specs.Lines.{answerLine}
+use Rattle.calibrator.specs.Refusals.{replyOf}
+use Rattle.lines.specs.Lines.{replyLine}
 use Rattle.lines.specs.Steps.{emptyProduct, listedLine, listedOf}
 use borrow.Author.Needs.{needs}
 use Rattle.lines.proofs.list_record.Statement.{statement}
@@ -14,9 +14,9 @@ use Rattle.lines.proofs.list_record.Tie as tie
 
 line-of-feed : (c : tie.After-feed)
     → let a = c .before .before .before .args in
-    answerLine (c .feed .result .answer) (c .feed .last .1 .1 .0) ≡ listedLine (a .calibrator) (now (a .scan))
+    replyLine (replyOf (c .feed .result .answer)) (c .feed .last .1 .1 .0) ≡ listedLine (a .calibrator) (now (a .scan))
 unfolding listedLine emptyProduct
-line-of-feed c = ap₂ answerLine (ap (λ (f : Fed). f .answer) (c .feed .ensures .0)) (c .feed .ensures .1)
+line-of-feed c = ap₂ replyLine (c .feed .ensures .0 .reply-is) (c .feed .ensures .0 .buffer-is)
 
 slice-aggregate-feed : tie.Need-slice-aggregate-feed
 slice-aggregate-feed c = search needs
@@ -33,13 +33,13 @@ returns c =
     let fed = c .before .before .before .before .before in
     let a = fed .before .before .before .args in
     let line = line-of-feed fed in
-    let next = ap (λ (f : Fed). f .calibrator) (fed .feed .ensures .0) in (
+    let next = fed .feed .ensures .0 .calibrator-is in (
       c .answer-line .ensures .0,
       (
         ap₂ (λ (calibrator : Calibrator) (size : ℕ). record { calibrator = calibrator; size = size }) next
             (c .answer-line .ensures .1 .0 ∙ ap length line),
         c .answer-line .ensures .1 .1 ∙ ap (put (now (a .out)) 0) line,
-        fed .feed .ensures .2,
+        fed .feed .ensures .1,
       ),
     )
 

@@ -1,0 +1,27 @@
+-- Document 01, "Operations": in each operation the tests run in the order named, and the first that applies decides.
+use Prim.Native.Nat.{ℕ}
+use mathlib.Core.List.{List, [], _∷_}
+use mathlib.Core.Bool.{Bool, cond}
+
+-- no test applies, or one does: refused with its number
+pub data Verdict : Type 0 where
+  passes : Verdict
+  fails : ℕ → Verdict
+
+-- the number of a refusal, and whether it applies
+pub record Test : Type 0 where
+  pub number : ℕ
+  pub applies : Bool
+
+infix 10 _when_
+abbrev pub _when_ : ℕ → Bool → Test
+number when applies = record { number = number; applies = applies }
+
+abbrev pub firstThatApplies : List Test → Verdict
+firstThatApplies [] = passes
+firstThatApplies (test ∷ more) = cond (test .applies) (fails (test .number)) (firstThatApplies more)
+
+-- the number of a verdict; 0, which is no refusal of document 01, where none applies
+abbrev pub numberOf : Verdict → ℕ
+numberOf passes = 0
+numberOf (fails n) = n
