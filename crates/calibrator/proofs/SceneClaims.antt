@@ -1,92 +1,60 @@
--- The scenes of an accepted feed: one is delivered exactly when the rules say, and is then at most 2 units from E. Read from the
--- product's bytes: the word of a scene is the bits of the scene that the channel's flag and constants give.
+-- The scenes of an accepted feed: one is delivered exactly when the rules say, and is then exactly T, at most 2 units from E, which is what
+-- equations 25 to 29 give. Read from the product's bytes: the word of a scene is the bits of the scene that the channel's flag and
+-- constants give.
 use Prim.Native.Nat.{ℕ, zero, suc, _+_, _*_, _<_, _≤_}
-use mathlib.Core.Path.{_≡_, refl, sym, ap, subst, _∙_}
-use mathlib.Core.List.{List, _++_}
 use native.Mathlib.Omega.{arith}
+use mathlib.Core.Path.{_≡_, refl, sym, ap, subst, subst₂, _∙_}
+use mathlib.Core.List.{List, [], _∷_, _++_}
 use mathlib.Core.Bool.{Bool, true, false, false≢true, cond}
-use lib.IntN.{ℤ, pos, natAbs, _-ℤ_, _*ℤ_}
-use lib.Signed.{_≤ℤ_}
-use lib.Ieee.{Float, nan, inf, fin, up, down, binary32, ofBits}
-use lib.Ieee.Fits.{down-pos}
-use lib.Ieee.Exact.{HasValue}
-use borrow.Author.Tests.{eqb-true, eq-eqb, ne-eqb}
-use mathlib.Core.List.{[], _∷_}
 use mathlib.Core.Logic.{_⊎_, inl, inr}
 use lib.Dec.{eqb}
-use lib.Signed.{_<ℤ_}
-use lib.IntN.{_+ℤ_}
+use lib.IntN.{ℤ, pos, natAbs, _+ℤ_, _-ℤ_, _*ℤ_}
+use lib.Signed.{_≤ℤ_, _<ℤ_}
 use lib.ListN.{getD, replicate}
-use Rattle.integers.specs.Bounds.{Bounded}
-use Rattle.integers.specs.Fractions.{Fraction, _/ᶠ_, whole, _-ᶠ_, Equal, Near, Distance}
-use Rattle.integers.proofs.Ring.{_:+_, _:-_, _:*_, opp, ring, #, v0, v1, v2, v3, v4}
+use lib.Ieee.{Float, binary32, ofBits}
+use borrow.Author.Tests.{eqb-true, eq-eqb, ne-eqb}
+use Rattle.integers.specs.Fractions.{_/ᶠ_, whole, _-ᶠ_, Equal, Near, Distance}
+use Rattle.integers.proofs.Ring.{_:+_, _:-_, _:*_, opp, #, v0, v1, v2, v3}
 use Rattle.integers.proofs.Certificate.{_:≤_, _:<_, hyp, nat, _⊕_, _⊗_, lt-by}
-use Rattle.integers.proofs.Order.{below-at-most}
-use Rattle.integers.proofs.Bounds.{bounded-product, bounded-by-itself, bounded-equal}
-use Rattle.integers.proofs.Naturals.{natural-below}
+use Rattle.integers.proofs.Fractions.{product-above, near-of-distance}
+use Rattle.integers.proofs.Naturals.{natural-below, natural-at-most}
 use Rattle.fields.specs.Numbers.{u16At}
 use Rattle.lists.proofs.Tabulate.{getD-tabulate}
-use Rattle.table.specs.Settings.{Settings, channels}
-use Rattle.table.specs.Ranges.{targetOf, SettingsRange}
-use Rattle.window.specs.declared.Means.{Means}
-use Rattle.window.specs.declared.Channel.{Channel}
-use Rattle.window.specs.Means.{Tw, Tc, D, flagOf, constantsOf, stateOf}
-use Rattle.window.proofs.FlagLaws.{Unflagged, unflagged-flag-zero, flag-zero-unflagged, flag-zero-weights-above}
-use Rattle.scene.specs.declared.Constants.{Constants}
-use Rattle.scene.specs.declared.Scene.{Scene}
-use Rattle.scene.specs.declared.Scene.the-variants.{Kelvin, Flagged, Outside, Guard}
-use Rattle.scene.specs.Scene.{kelvin, bits, numerator, sceneOf}
-use Rattle.scene.specs.Temperature.{temperature}
-use Rattle.scene.proofs.Delivered.{Passes, temperatureOf, N-is-numerator, delivered-exactly-when}
-use Rattle.scene.proofs.Distance.{temperature-distance, one-above}
-use Rattle.integers.proofs.Fractions.{product-above}
-use Rattle.scene.proofs.Exact.{kelvin-exact, kelvin-bits-back}
-use Rattle.product.specs.Scenes.{sceneIn, sceneAt, earthPart, noChannel, delivered}
-use Rattle.product.specs.Product.{productOf}
-use Rattle.product.proofs.Bytes.{scene-in-product}
-use Rattle.product.proofs.Marks as M
-use Rattle.product.proofs.SummaryLaws.{delivered-count}
-use Rattle.product.specs.Product.{deliveredCount}
 use Rattle.lists.proofs.Sum.{sum-same}
 use Rattle.lists.proofs.Count.{count-same}
+use Rattle.table.specs.Settings.{Settings, channels}
+use Rattle.table.specs.Ranges.{targetOf, SettingsRange}
 use Rattle.acceptance.specs.declared.Scan.{Scan}
 use Rattle.acceptance.specs.Record.{scanNumber}
 use Rattle.acceptance.proofs.Ranges.{KelvinRange, kept-scan-kelvins}
+use Rattle.window.specs.declared.Means.{Means}
+use Rattle.window.specs.declared.Channel.{Channel}
 use Rattle.window.specs.Ages.{noScan}
-use Rattle.window.specs.Means.{meansFrom}
+use Rattle.window.specs.Means.{meansFrom, Tw, Tc, D, flagOf, constantsOf, stateOf}
 use Rattle.window.proofs.SumLaws.{target-sum-at-least}
-use Rattle.window.proofs.FlagLaws.{flag-zero-warm-above, flag-zero-cold-above}
+use Rattle.window.proofs.FlagLaws.{Unflagged, unflagged-flag-zero, flag-zero-unflagged, flag-zero-weights-above, flag-zero-warm-above, flag-zero-cold-above}
+use Rattle.scene.specs.declared.Constants.{Constants}
+use Rattle.scene.specs.declared.Scene.{Scene}
+use Rattle.scene.specs.declared.Scene.the-variants.{Kelvin, Flagged, Outside, Guard}
+use Rattle.scene.specs.Scene.{kelvin, bits, unitsOf, numerator, sceneOf}
+use Rattle.scene.specs.Temperature.{temperature}
 use Rattle.scene.specs.Unrounded.{unroundedTw}
-use Rattle.scene.proofs.SameFraction.{SameFraction}
+use Rattle.scene.proofs.Delivered.{Passes, temperatureOf, N-is-numerator, delivered-exactly-when}
+use Rattle.scene.proofs.Distance.{temperature-distance, one-above}
 use Rattle.scene.proofs.Equations.{corrected-same}
-use Rattle.integers.proofs.Naturals.{natural-at-most}
+use Rattle.scene.proofs.Exact.{units-of-kelvin, kelvin-bits-back}
+use Rattle.product.specs.Scenes.{sceneIn, sceneAt, earthPart, noChannel, delivered}
+use Rattle.product.specs.Product.{deliveredCount}
+use Rattle.product.proofs.Bytes.{scene-in-product}
+use Rattle.product.proofs.Marks as M
+use Rattle.product.proofs.SummaryLaws.{delivered-count}
 use Rattle.calibrator.specs.Feeding.{keptBy}
 use Rattle.calibrator.specs.Roll.{Roll}
-use Rattle.calibrator.specs.Moments.{Moment, currentNumber, earthCounts, meansAt, channelsAt, productAt, ByTheRules, NoMark, SceneClaim, isDelivered, deliveredIn, wordAt, unitsOf, unitsAt, nAt, tAt, eAt, equationsAt}
+use Rattle.calibrator.specs.Moments.{Moment, currentNumber, earthCounts, meansAt, channelsAt, productAt, ByTheRules, NoMark, SceneClaim, isDelivered, deliveredIn, wordAt, unitsAt, nAt, tAt, eAt, equationsAt}
 use Rattle.calibrator.proofs.RollLaws.{scanOfAge}
 use Rattle.calibrator.proofs.SampleLaws.{scansAt, means-at-is}
 
--- ---- a float that is t / 4096 is t units
-value-units : (x : Float) (t : ℕ) → HasValue x false t 4096 → (pos 0 <ℤ unitsOf x .den) × (unitsOf x .num ≡ pos t *ℤ unitsOf x .den)
-value-units nan t h = absurd h
-value-units (inf s) t h = absurd h
-value-units (fin true m e) t h = absurd (false≢true (sym (h .0)))
-value-units (fin false m e) t h = (natural-below (down-pos e), ap pos (h .1))
-
-near-of-distance : {limit e : Fraction} {t : ℤ} (a : Fraction) → pos 0 <ℤ a .den → a .num ≡ t *ℤ a .den → Distance limit t e → Near limit a e
-near-of-distance {limit} {e} {t} a above is h = record {
-  left-above = above;
-  right-above = h .den-above;
-  apart = bounded-equal
-      ((ring ((limit .den) ∷ t ∷ (e .den) ∷ (e .num) ∷ (a .den) ∷ []) (v0 :* (v1 :* v2 :- v3) :* v4) (v0 :* (v1 :* v4 :* v2 :- v3 :* v4)) tt)
-      ∙ ap (λ n. limit .den *ℤ (n *ℤ e .den -ℤ e .num *ℤ a .den)) (sym is))
-      (ring ((limit .num) ∷ (e .den) ∷ (a .den) ∷ []) (v0 :* v1 :* v2) (v0 :* (v2 :* v1)) tt)
-      (bounded-product (h .apart) (bounded-by-itself (below-at-most above)));
-}
-
-times-one : (z : ℤ) → z *ℤ pos 1 ≡ z
-times-one z = ring (z ∷ []) (v0 :* # 1) v0 tt
-
+-- ---- marks are not delivered
 mark-outside : isDelivered (bits Outside) ≡ false
 unfolding bits
 mark-outside = refl
@@ -233,24 +201,19 @@ module _ (s : Settings) (m : Moment) (c i : ℕ) where
     float-is h = ap (ofBits binary32) (word-is ∙ ap bits (rules-scene h)) ∙ kelvin-bits-back (natAbs (temperatureOf constants count))
 
     -- 4096 times the f32 is T
-    units-are : (h : ByTheRules s m c i) → (pos 0 <ℤ unitsAt product c i .den) × (unitsAt product c i .num ≡ tAt s m c i *ℤ unitsAt product c i .den)
-    units-are h =
+    exactly : (h : ByTheRules s m c i) → Equal (unitsAt product c i) (whole (tAt s m c i))
+    exactly h =
         let guard = delivered-exactly-when constants count .1 (rules-pass h) .1 in
         let t = natAbs (temperatureOf constants count) in
-        let is : pos t ≡ tAt s m c i = guard .same ∙ sym t-is-temperature in
-        subst (λ (x : Float). (pos 0 <ℤ unitsOf x .den) × (unitsOf x .num ≡ tAt s m c i *ℤ unitsOf x .den)) (sym (float-is h))
-        (subst (λ z. (pos 0 <ℤ unitsOf (kelvin t) .den) × (unitsOf (kelvin t) .num ≡ z *ℤ unitsOf (kelvin t) .den)) is
-        (value-units (kelvin t) t (kelvin-exact t (guard .low) (guard .high))))
+        subst₂ (λ (x : Float) (z : ℤ). Equal (unitsOf x) (whole z)) (sym (float-is h)) (guard .same ∙ sym t-is-temperature) (units-of-kelvin t (guard .low) (guard .high))
 
     distance-of-t : (h : ByTheRules s m c i) → Distance (pos 2 /ᶠ pos 1) (tAt s m c i) (eAt s m c i)
     distance-of-t h =
-        (temperature-distance (Tc (s .channel c)) (s .channel c .tnl) (pos (means .weighted)) (pos (means .weights)) (s .channel c .b) (h .warmAboveCold) (h .notBelow) (h .notAbove) (range .channel c below .tnl) (natural-below (flag-zero-weights-above range (targetOf c) means (unflagged-flag-zero s (targetOf c) means (rules-unflagged h)))))
+        temperature-distance (Tc (s .channel c)) (s .channel c .tnl) (pos (means .weighted)) (pos (means .weights)) (s .channel c .b) (h .warmAboveCold) (h .notBelow) (h .notAbove) (range .channel c below .tnl)
+        (natural-below (flag-zero-weights-above range (targetOf c) means (unflagged-flag-zero s (targetOf c) means (rules-unflagged h))))
 
     near-e : (h : ByTheRules s m c i) → Near (pos 2 /ᶠ pos 1) (unitsAt product c i) (eAt s m c i)
-    near-e h = near-of-distance (unitsAt product c i) (units-are h .0) (units-are h .1) (distance-of-t h)
-
-    exactly : (h : ByTheRules s m c i) → Equal (unitsAt product c i) (whole (tAt s m c i))
-    exactly h = record { left-above = units-are h .0; right-above = one-above; same = times-one _ ∙ units-are h .1 }
+    near-e h = near-of-distance (exactly h) (distance-of-t h)
 
     -- whether it is delivered, by the word and by the scene
     word-delivered : isDelivered (wordAt product c i) ≡ delivered scene
@@ -283,10 +246,9 @@ module _ (s : Settings) (m : Moment) (c i : ℕ) where
     by-equations : (h : ByTheRules s m c i) → Equal (equationsAt s m c i) (eAt s m c i)
     by-equations h =
         let z = flag-zero h in
-        let same = corrected-same (pos (means .aw)) (pos (means .ac)) (pos count) (Tc (s .channel c)) (s .channel c .tnl) (unroundedTw (pos (means .weighted)) (pos (means .weights)) (s .channel c .b))
+        corrected-same (pos (means .aw)) (pos (means .ac)) (pos count) (Tc (s .channel c)) (s .channel c .tnl) (unroundedTw (pos (means .weighted)) (pos (means .weights)) (s .channel c .b))
         (natural-below (flag-zero-warm-above range (targetOf c) means z)) (natural-below (flag-zero-cold-above range (targetOf c) means z)) (h .warmAboveCold)
-        (product-above (natural-below (flag-zero-weights-above range (targetOf c) means z)) one-above) (rise-above h) in
-        record { left-above = same .left-above; right-above = same .right-above; same = same .same }
+        (product-above (natural-below (flag-zero-weights-above range (targetOf c) means z)) one-above) (rise-above h)
 
     pub scene-claim : SceneClaim s m product c i
     scene-claim = record { rules = rules; delivers = delivers; exact = λ h. exactly (rules h); distance = λ h. near-e (rules h); equations = λ h. by-equations (rules h) }

@@ -2,13 +2,13 @@
 -- is made of one moment and the table.
 use Prim.Native.Nat.{ℕ, _+_, _*_, _<_}
 use mathlib.Core.Path.{_≡_}
-use mathlib.Core.List.{List, _++_}
-use mathlib.Core.Bool.{Bool, false, not, _&&_, cond}
+use mathlib.Core.List.{List}
+use mathlib.Core.Bool.{Bool, false, not, _&&_}
 use lib.Dec.{eqb}
-use lib.IntN.{ℤ, pos, negℤ, _-ℤ_, _*ℤ_}
+use lib.IntN.{ℤ, pos, _-ℤ_, _*ℤ_}
 use lib.Signed.{_≤ℤ_, _<ℤ_}
 use lib.ListN.{take, drop}
-use lib.Ieee.{Float, nan, inf, fin, up, down, binary32, ofBits}
+use lib.Ieee.{binary32, ofBits}
 use Rattle.integers.specs.Fractions.{Fraction, _/ᶠ_, whole, Equal, Near}
 use Rattle.lists.specs.Build.{tabulate}
 use Rattle.lists.specs.Count.{count}
@@ -23,7 +23,7 @@ use Rattle.window.specs.declared.Means.{Means}
 use Rattle.window.specs.declared.Channel.{Channel}
 use Rattle.window.specs.Means.{Tw, Tc, D, tooFewThermometers, tooFewCounts, stateOf}
 use Rattle.scene.specs.declared.Scene.the-variants.{Flagged, Outside, Guard}
-use Rattle.scene.specs.Scene.{bits}
+use Rattle.scene.specs.Scene.{bits, unitsOf}
 use Rattle.scene.specs.Temperature.{N, temperature}
 use Rattle.scene.specs.Unrounded.{E, unroundedTw, meanCount, corrected}
 use Rattle.product.specs.Scenes.{earthPart}
@@ -109,12 +109,6 @@ isDelivered word = not (eqb word (bits Flagged)) && (not (eqb word (bits Outside
 
 abbrev pub deliveredIn : List ℕ → ℕ
 deliveredIn product = sum (λ c. count (λ i. isDelivered (wordAt product c i)) 96) channels
-
--- 4096 times a float, with its sign and its fraction. A NaN or an infinity has no value: its denominator is 0, which nothing is near to.
-abbrev pub unitsOf : Float → Fraction
-unitsOf nan = pos 0 /ᶠ pos 0
-unitsOf (inf negative) = pos 0 /ᶠ pos 0
-unitsOf (fin negative m e) = cond negative (negℤ (pos (m * up e * 4096))) (pos (m * up e * 4096)) /ᶠ pos (down e)
 
 -- 4096 times the f32 that the four bytes hold
 abbrev pub unitsAt : List ℕ → ℕ → ℕ → Fraction

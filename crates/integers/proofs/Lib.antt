@@ -9,3 +9,4 @@ pub mod Machine
 pub mod Floor
 pub mod Nearest
 pub mod Fractions
+pub mod EqualFractions

@@ -9,7 +9,8 @@ use Rattle.integers.proofs.Fractions.{product-above}
 use Rattle.scene.specs.Temperature.{N}
 use Rattle.scene.specs.Unrounded.{E, linear, relative, quadratic, corrected, meanCount}
 use Rattle.scene.proofs.Formal.{_/ᵉ_, wholeᵉ, _+ᵉ_, _-ᵉ_, _*ᵉ_, _÷ᵉ_, same-fraction}
-use Rattle.scene.proofs.SameFraction.{SameFraction, same-itself, same-trans, same-sum, same-difference, same-product, same-divided}
+use Rattle.integers.specs.Fractions.{Equal}
+use Rattle.integers.proofs.EqualFractions.{same-itself, same-trans, same-sum, same-difference, same-product, same-divided}
 use Rattle.scene.proofs.Distance.{one-above}
 
 -- ---- three identities, in which k is C - Cw, w is Cw - Cc and t is Tw - Tc
@@ -37,21 +38,21 @@ module _ (Aw Ac C tc tnl : ℤ) (tw : Fraction) {Ww Wc : ℤ} (warm : pos 0 <ℤ
   counts-apart : pos 0 <ℤ (meanCount Aw Ww -ᶠ meanCount Ac Wc) .num
   counts-apart = (lt-by (Aw ∷ Ac ∷ Ww ∷ Wc ∷ []) ((# 0 :< v0 :* v3 :- v1 :* v2) ∷ []) (# 0) (v0 :* (# 12 :* v3) :- v1 :* (# 12 :* v2)) (hyp 0 ⊕ nat 12 ⊗ hyp 1) tt d)
 
-  x-same : SameFraction (whole (pos 1) +ᶠ (whole C -ᶠ meanCount Aw Ww) ÷ᶠ (meanCount Aw Ww -ᶠ meanCount Ac Wc)) (N Ww Wc Ac C /ᶠ (Aw *ℤ Wc -ℤ Ac *ℤ Ww))
+  x-same : Equal (whole (pos 1) +ᶠ (whole C -ᶠ meanCount Aw Ww) ÷ᶠ (meanCount Aw Ww -ᶠ meanCount Ac Wc)) (N Ww Wc Ac C /ᶠ (Aw *ℤ Wc -ℤ Ac *ℤ Ww))
   x-same = record {
     left-above = product-above one-above (product-above (product-above one-above mean-above) counts-apart);
     right-above = d;
     same = counts-identity Aw Ww Ac Wc C;
   }
 
-  rise-same : SameFraction (tw -ᶠ whole tc) (tw -ᶠ whole tc)
+  rise-same : Equal (tw -ᶠ whole tc) (tw -ᶠ whole tc)
   rise-same = same-itself (product-above tw-above one-above)
 
   -- T_lin is Tc + x(Tw - Tc)
-  pub linear-same : SameFraction (linear (meanCount Aw Ww) (meanCount Ac Wc) tw (whole tc) (whole C)) (whole tc +ᶠ N Ww Wc Ac C /ᶠ (Aw *ℤ Wc -ℤ Ac *ℤ Ww) *ᶠ (tw -ᶠ whole tc))
+  pub linear-same : Equal (linear (meanCount Aw Ww) (meanCount Ac Wc) tw (whole tc) (whole C)) (whole tc +ᶠ N Ww Wc Ac C /ᶠ (Aw *ℤ Wc -ℤ Ac *ℤ Ww) *ᶠ (tw -ᶠ whole tc))
   linear-same = same-trans by-relative (same-sum (same-itself {a = whole tc} one-above) (same-product x-same rise-same))
     where
-      by-relative : SameFraction (linear (meanCount Aw Ww) (meanCount Ac Wc) tw (whole tc) (whole C)) (whole tc +ᶠ (whole (pos 1) +ᶠ (whole C -ᶠ meanCount Aw Ww) ÷ᶠ (meanCount Aw Ww -ᶠ meanCount Ac Wc)) *ᶠ (tw -ᶠ whole tc))
+      by-relative : Equal (linear (meanCount Aw Ww) (meanCount Ac Wc) tw (whole tc) (whole C)) (whole tc +ᶠ (whole (pos 1) +ᶠ (whole C -ᶠ meanCount Aw Ww) ÷ᶠ (meanCount Aw Ww -ᶠ meanCount Ac Wc)) *ᶠ (tw -ᶠ whole tc))
       by-relative = record {
         left-above = product-above tw-above (product-above (product-above one-above mean-above) (product-above counts-apart (product-above tw-above one-above)));
         right-above = product-above one-above (product-above (x-same .left-above) (rise-same .left-above));
@@ -59,18 +60,15 @@ module _ (Aw Ac C tc tnl : ℤ) (tw : Fraction) {Ww Wc : ℤ} (warm : pos 0 <ℤ
       }
 
   -- x_lin is N / D
-  pub relative-same : SameFraction (relative (meanCount Aw Ww) (meanCount Ac Wc) tw (whole tc) (whole C)) (N Ww Wc Ac C /ᶠ (Aw *ℤ Wc -ℤ Ac *ℤ Ww))
+  pub relative-same : Equal (relative (meanCount Aw Ww) (meanCount Ac Wc) tw (whole tc) (whole C)) (N Ww Wc Ac C /ᶠ (Aw *ℤ Wc -ℤ Ac *ℤ Ww))
   relative-same =
       let divided = same-divided (tw -ᶠ whole tc) rise-above (same-difference linear-same (same-itself {a = whole tc} one-above)) in
       same-trans divided (record { left-above = divided .right-above; right-above = d; same = relative-identity (N Ww Wc Ac C /ᶠ (Aw *ℤ Wc -ℤ Ac *ℤ Ww)) (tw -ᶠ whole tc) (whole tc) })
 
-  quadratic-same : SameFraction (quadratic (relative (meanCount Aw Ww) (meanCount Ac Wc) tw (whole tc) (whole C)) (whole tnl)) (quadratic (N Ww Wc Ac C /ᶠ (Aw *ℤ Wc -ℤ Ac *ℤ Ww)) (whole tnl))
+  quadratic-same : Equal (quadratic (relative (meanCount Aw Ww) (meanCount Ac Wc) tw (whole tc) (whole C)) (whole tnl)) (quadratic (N Ww Wc Ac C /ᶠ (Aw *ℤ Wc -ℤ Ac *ℤ Ww)) (whole tnl))
   quadratic-same =
       same-product (same-product (same-product (same-itself {a = whole (pos 4)} one-above) relative-same) (same-difference (same-itself {a = whole (pos 1)} one-above) relative-same)) (same-itself {a = whole tnl} one-above)
 
   -- T is E
-  pub corrected-same : SameFraction (corrected (meanCount Aw Ww) (meanCount Ac Wc) tw (whole tc) (whole tnl) (whole C)) (E (N Ww Wc Ac C /ᶠ (Aw *ℤ Wc -ℤ Ac *ℤ Ww)) tw (whole tc) (whole tnl))
+  pub corrected-same : Equal (corrected (meanCount Aw Ww) (meanCount Ac Wc) tw (whole tc) (whole tnl) (whole C)) (E (N Ww Wc Ac C /ᶠ (Aw *ℤ Wc -ℤ Ac *ℤ Ww)) tw (whole tc) (whole tnl))
   corrected-same = same-sum linear-same quadratic-same
-
-  pub equations-give-E : corrected (meanCount Aw Ww) (meanCount Ac Wc) tw (whole tc) (whole tnl) (whole C) ≡ᶠ E (N Ww Wc Ac C /ᶠ (Aw *ℤ Wc -ℤ Ac *ℤ Ww)) tw (whole tc) (whole tnl)
-  equations-give-E = corrected-same .same

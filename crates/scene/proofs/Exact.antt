@@ -4,10 +4,11 @@ use Prim.Native.Nat.{ℕ, zero, suc, _+_, _-_, _*_, _/_, _%_, _^_, _<_, _≤_, c
 use native.Mathlib.Nat.{mul-one, mul-assoc, lt-of-lt-of-le, mul-div-cancel, mul-right-comm, mul-lt-mul-of-pos-right, mul-le-mul-right, mul-pos}
 use native.Mathlib.Omega.{arith}
 use mathlib.Core.Path.{_≡_, refl, sym, ap, _∙_, subst}
-use mathlib.Core.Bool.{Bool, true, false, not, cond}
+use mathlib.Core.Bool.{Bool, true, false, not, cond, false≢true}
 use lib.Dec.{T, ltb, le→leb, lit<, lit≤}
 use borrow.Author.Tests.{lt-ltb, le-ltb, ltb-true, ltb-false}
 use lib.IntN.{ℤ, pos, negsuc, natAbs}
+use lib.Signed.{ltZ-yes}
 use lib.Pow.{shl-lt}
 use lib.Ieee.{Float, Format, nan, inf, fin, binary32, round, units as roundedUnits, odd, low, emax, prec, size, nearest, mul, div, ofInt, ofBits, toBits, isNan, inFloat, fits, up, down, lt, below}
 use lib.Ieee.Fits.{round-fits, down-pos}
@@ -15,11 +16,14 @@ use lib.Ieee.Bits.{ofBits-toBits}
 use lib.Ieee.Exact.{HasValue, round-exact}
 use lib.Ieee.Back.{round-whole}
 use lib.Ieee.Positive.{positive-of-value, mul-at}
+use Rattle.integers.specs.Fractions.{whole, Equal}
+use Rattle.integers.proofs.Fractions.{times-one}
+use Rattle.integers.proofs.Naturals.{natural-below}
 use Rattle.scene.specs.declared.Scene.{Scene}
 use Rattle.scene.specs.declared.Scene.the-variants.{Kelvin, Flagged, Outside, Guard}
 use Rattle.scene.specs.declared.Constants.{Constants}
 use Rattle.scene.specs.Temperature.{outside, temperature, guardFails}
-use Rattle.scene.specs.Scene.{kelvin, value, bits, units, numerator, sceneOf}
+use Rattle.scene.specs.Scene.{kelvin, value, bits, unitsOf, numerator, sceneOf}
 
 -- ---- as the code forms it
 abbrev unit : Float
@@ -49,12 +53,13 @@ module _ (t : ℕ) (low : 1 ≤ t) (high : t ≤ 16777215) where
       ∙ ap (λ n. round binary32 false n 4096) (mul-one t)
 
 -- ---- 4096 times it is t again
-value-units : (x : Float) (t : ℕ) → HasValue x false t 4096 → units x ≡ t
+value-units : (x : Float) (t : ℕ) → HasValue x false t 4096 → Equal (unitsOf x) (whole (pos t))
 value-units nan t h = absurd h
 value-units (inf s) t h = absurd h
-value-units (fin s m e) t h = ap (λ n. n / down e) (h .1) ∙ mul-div-cancel t (down-pos e)
+value-units (fin true m e) t h = absurd (false≢true (sym (h .0)))
+value-units (fin false m e) t h = record { left-above = natural-below (down-pos e); right-above = ltZ-yes tt; same = times-one _ ∙ ap pos (h .1) }
 
-pub units-of-kelvin : (t : ℕ) → 1 ≤ t → t ≤ 16777215 → units (kelvin t) ≡ t
+pub units-of-kelvin : (t : ℕ) → 1 ≤ t → t ≤ 16777215 → Equal (unitsOf (kelvin t)) (whole (pos t))
 units-of-kelvin t low high = value-units (kelvin t) t (kelvin-exact t low high)
 
 -- ---- bits and back

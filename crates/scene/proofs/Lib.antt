@@ -2,7 +2,6 @@ pub mod Ranges
 pub mod Exact
 pub mod Delivered
 pub mod Formal
-pub mod SameFraction
 pub mod Distance
 pub mod Equations
 mod Bracket

@@ -1,10 +1,11 @@
 -- Document 01, "Scenes": a scene is either a temperature in kelvin or a mark.
-use Prim.Native.Nat.{ℕ, _*_, _/_}
+use Prim.Native.Nat.{ℕ, _*_}
 use mathlib.Core.Bool.{true, false, cond}
-use lib.IntN.{ℤ, pos, natAbs, _-ℤ_, _*ℤ_}
+use lib.IntN.{ℤ, pos, negℤ, natAbs, _-ℤ_, _*ℤ_}
 use lib.Signed.{_≤ℤ_, _<ℤ_}
 use lib.Ieee.{Float, nan, inf, fin, binary32, round, toBits, up, down}
 use Rattle.integers.specs.Bounds.{Bounded}
+use Rattle.integers.specs.Fractions.{Fraction, _/ᶠ_}
 use Rattle.scene.specs.declared.Scene.{Scene}
 use Rattle.scene.specs.declared.Scene.the-variants.{Kelvin, Flagged, Outside, Guard}
 use Rattle.scene.specs.declared.Constants.{Constants}
@@ -26,11 +27,12 @@ unfoldable pub bits : Scene → ℕ
 unfolding toBits
 bits s = toBits binary32 (value s)
 
--- 4096 times the size of a finite float, which is a whole number of units for every delivered scene
-abbrev pub units : Float → ℕ
-units nan = 0
-units (inf s) = 0
-units (fin s m e) = m * up e * 4096 / down e
+-- 4096 times a float, with its sign and its fraction: a unit is 1/4096 K. A NaN or an infinity has no value: its denominator is 0, which
+-- nothing is near to.
+abbrev pub unitsOf : Float → Fraction
+unitsOf nan = pos 0 /ᶠ pos 0
+unitsOf (inf negative) = pos 0 /ᶠ pos 0
+unitsOf (fin negative m e) = cond negative (negℤ (pos (m * up e * 4096))) (pos (m * up e * 4096)) /ᶠ pos (down e)
 
 -- ---- the scene of a count in a channel with flag 0. Of its channel a scene needs Tc, rise = Tw - Tc, TNL, D, slope = 12 × Wc × Ww
 -- and base = Ac × Ww alone: N = slope × C - base
