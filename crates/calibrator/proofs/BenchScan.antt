@@ -1,20 +1,20 @@
 -- What the bench table says, and what the bench scan gives under it: accepted samples, sums and earth counts.
 use Prim.Native.Nat.{ℕ, _+_, _*_, _<_}
+use native.Mathlib.Nat.{mul-comm}
 use native.Mathlib.Omega.{arith}
 use mathlib.Core.Path.{_≡_, refl, ap, ap₂, _∙_}
 use mathlib.Core.List.{List, [], _∷_, _++_}
 use mathlib.Core.Bool.{Bool, true, cond}
 use lib.Dec.{eqb}
 use lib.IntN.{pos}
-use lib.ListN.{length, replicate}
+use lib.ListN.{length, take, drop, replicate}
 use Rattle.lists.specs.Build.{tabulate, cells}
 use Rattle.lists.specs.Count.{count, every}
 use Rattle.lists.specs.Sum.{sum}
 use Rattle.lists.proofs.Tabulate.{tabulate-same, each-of-same}
-use Rattle.lists.proofs.Cells.{length-cells}
+use Rattle.lists.proofs.Cells.{length-cells, cell-of-cells}
 use Rattle.fields.specs.Numbers.{u16At}
 use Rattle.fields.specs.Fields.{fieldIsRight, layoutIsRight}
-use Rattle.fields.proofs.NumberLaws.{u16-of-drop}
 use Rattle.thermometer.specs.declared.Reading.{Reading}
 use Rattle.thermometer.specs.declared.Reading.the-variants.{Units}
 use Rattle.thermometer.specs.Reading.{reading}
@@ -37,7 +37,7 @@ use Rattle.window.specs.Sums.{weightSum, valueSum, thermometerWeights, thermome
 use Rattle.window.specs.Means.{meansFrom, meansOf}
 use Rattle.product.specs.Scenes.{earthPart}
 use Rattle.product.specs.Product.{u16Bytes}
-use Rattle.product.proofs.Bytes.{stands-inside, cell-stands, u16-that-stands}
+use Rattle.product.proofs.Bytes.{cell-stands, u16-that-stands}
 use Rattle.calibrator.specs.Moments.{earthCounts, meansAt}
 use Rattle.calibrator.specs.Feeding.{keptBy}
 use Rattle.calibrator.specs.Bench.{benchTable, perChannel, benchScan, benchSettings, benchMoment, limits}
@@ -125,8 +125,6 @@ module _ (earth : ℕ) where
       let row : List ℕ = cells (λ i. u16Bytes earth) 96 in
       let long-row : length row ≡ 192 = length-cells (λ i. u16Bytes earth) 2 (λ i. refl) 96 in
       ap (λ (l : List ℕ). u16At (earthPart l c) (2 * i)) earth-field
-      ∙ u16-of-drop (perChannel 96 earth) (192 * c) (2 * i)
-      ∙ u16-that-stands (perChannel 96 earth) (192 * c + 2 * i) earth
-      (stands-inside (perChannel 96 earth) row (u16Bytes earth) (192 * c) (2 * i) (omega arith)
-      (cell-stands (λ c. row) 192 (λ c. long-row) channels c below)
-      (cell-stands (λ i. u16Bytes earth) 2 (λ i. refl) 96 i inside))
+      ∙ ap (λ (at : ℕ). u16At (take 192 (drop at (perChannel 96 earth))) (2 * i)) (mul-comm 192 c)
+      ∙ ap (λ (part : List ℕ). u16At part (2 * i)) (cell-of-cells (λ c. row) 192 (λ c. long-row) channels c below)
+      ∙ u16-that-stands row (2 * i) earth (cell-stands (λ i. u16Bytes earth) 2 (λ i. refl) 96 i inside)

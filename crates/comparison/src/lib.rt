@@ -14,7 +14,7 @@ ghost use Rattle.table.specs.Opening.{ages};
 ghost use Rattle.acceptance.specs.Record.{recordLayout};
 ghost use Rattle.acceptance.specs.Accepted.{acceptedSamples};
 ghost use Rattle.acceptance.specs.Kept.{keptScan};
-ghost use Rattle.scene.specs.Scene.{ConstantsRange};
+ghost use Rattle.scene.specs.Ranges.{ConstantsRange};
 ghost use Rattle.product.specs.Product.{productOf, deliveredCount};
 ghost use Rattle.comparison.specs.KeptValues.{keptAt};
 ghost use Rattle.comparison.specs.AlikeChannels.{alikeChannels};

@@ -1,6 +1,6 @@
 -- Laws of `put`: what it leaves and what it holds, and what comes to a put: stores in a row, a part that was lent, two puts in a row.
 use Prim.Native.Nat.{ℕ, _+_, _-_, _<_, _≤_}
-use native.Mathlib.Nat.{add-assoc, le-refl}
+use native.Mathlib.Nat.{add-assoc, add-sub-cancel-left, le-refl}
 use native.Mathlib.Omega.{arith}
 use mathlib.Core.Path.{_≡_, refl, sym, ap, _∙_}
 use mathlib.Core.List.{List, [], _∷_, _++_, append-assoc}
@@ -109,6 +109,10 @@ module _ {A : Type 0} where
   -- `&xs[k..]`
   pub rest-is-drop : (xs : List A) (k : ℕ) → take (length xs - k) (drop k xs) ≡ drop k xs
   rest-is-drop xs k = take-all (length xs - k) (drop k xs) (omega (arith, length-drop k xs))
+
+  -- `&xs[k..k + n]`
+  pub part-is-take : (xs : List A) (k n : ℕ) → take (k + n - k) (drop k xs) ≡ take n (drop k xs)
+  part-is-take xs k n = ap (λ (m : ℕ). take m (drop k xs)) (add-sub-cancel-left k n)
 
   -- ---- a part that was lent and has come back
 

@@ -42,7 +42,7 @@ stands-behind front l v n at long stands = record {
 }
 
 -- a part of what stands
-pub stands-inside : (l v w : List ℕ) (at k : ℕ) → k + length w ≤ length v → StandsAt l at v → StandsAt v k w → StandsAt l (at + k) w
+stands-inside : (l v w : List ℕ) (at k : ℕ) → k + length w ≤ length v → StandsAt l at v → StandsAt v k w → StandsAt l (at + k) w
 stands-inside l v w at k fits outer inner = record {
   each = λ i inside. ap (λ n. getD l n 0) (add-assoc at k i) ∙ outer .each (k + i) (omega arith) ∙ inner .each i inside;
 }

@@ -2,13 +2,12 @@
 use Prim.Native.Nat.{ℕ, _*_}
 use mathlib.Core.List.{List}
 use mathlib.Core.Bool.{Bool, true, false, cond}
-use mathlib.Core.Path.{_≡_}
 use lib.Dec.{eqb}
-use lib.ListN.{drop}
+use lib.ListN.{take, drop}
 use Rattle.fields.specs.Numbers.{u16At}
 use Rattle.scene.specs.declared.Scene.{Scene}
 use Rattle.scene.specs.declared.Scene.the-variants.{Kelvin, Flagged, Outside, Guard}
-use Rattle.scene.specs.Scene.{sceneOf, ConstantsRange}
+use Rattle.scene.specs.Scene.{sceneOf}
 use Rattle.window.specs.declared.Channel.{Channel}
 use Rattle.window.specs.Means.{noConstants}
 
@@ -16,9 +15,9 @@ use Rattle.window.specs.Means.{noConstants}
 unfoldable pub sceneIn : Channel → ℕ → Scene
 sceneIn channel count = cond (eqb (channel .flag) 0) (sceneOf (channel .constants) count) Flagged
 
--- 96 earth counts a channel: a channel's part of the earth counts starts at its first count
+-- a channel's part of the earth counts: 96 counts, 192 bytes
 abbrev pub earthPart : List ℕ → ℕ → List ℕ
-earthPart earth c = drop (192 * c) earth
+earthPart earth c = take 192 (drop (192 * c) earth)
 
 -- past the last channel; nothing reads it
 abbrev pub noChannel : Channel
@@ -34,7 +33,3 @@ delivered (Kelvin x) = true
 delivered Flagged = false
 delivered Outside = false
 delivered Guard = false
-
--- what a channel keeps to: with flag 0 its constants are in their ranges
-pub record ChannelRange (channel : Channel) : Type 0 where
-  pub constants : channel .flag ≡ 0 → ConstantsRange (channel .constants)

@@ -5,7 +5,8 @@ ghost use Prim.Native.Nat.{ℕ, _+_, _*_, _<_, _≤_};
 ghost use lib.ListN.{length, drop, getD};
 ghost use Rattle.lists.specs.Build.{put};
 ghost use Rattle.lists.specs.Sum.{sum};
-ghost use Rattle.product.specs.Scenes.{sceneIn, noChannel, ChannelRange};
+ghost use Rattle.product.specs.Scenes.{sceneIn, noChannel};
+ghost use Rattle.product.specs.Ranges.{ChannelRange};
 ghost use Rattle.product.specs.Summary.{noneDelivered, lesser, greater, withTemperature, withScene, summaryOf};
 ghost use Rattle.product.specs.Product.{u16Bytes, u32Bytes, fieldBytes, channelScenes, sceneBytes, summaryBytes, summaries, summariesBytes, flagBytes, productOf, deliveredCount};
 ghost use Rattle.product.specs.Steps.{headBytes, Plain, scaleIn};
@@ -130,9 +131,9 @@ fn put_head(out: &mut [u8], at: usize, tag: u8, size: u16)
     put_u16(out, at + 1, size);
 }
 
-// The scenes of a channel into its own stretch; `part` starts at the channel's first earth count.
+// The scenes of a channel into its own stretch; `part` is the channel's part of the earth counts.
 fn write_channel(out: &mut [u8], channel: Channel, part: &[u8]) -> Summary
-    requires { ⌜ (length (now out) ≡ 384) × (192 ≤ length (now part)) × ChannelRange channel ⌝ }
+    requires { ⌜ (length (now out) ≡ 384) × (length (now part) ≡ 192) × ChannelRange channel ⌝ }
     ensures { λ r. ⌜ (r ≡ summaryOf channel (now (part .entry))) × (now (out .exit) ≡ channelScenes channel (now (part .entry))) ⌝ }
 {
     let scale = scale_in(channel);
@@ -145,7 +146,7 @@ fn write_channel(out: &mut [u8], channel: Channel, part: &[u8]) -> Summary
     summary
 }
 
-// The scenes of all channels; each is lent its own stretch.
+// The scenes of all channels; each is lent its own stretch, and its own part of the earth counts.
 fn write_scenes(out: &mut [u8], channels: [Channel; 22], earth: &[u8]) -> [Summary; 22]
     requires { ⌜ (length (now out) ≡ 8448) × (length (now earth) ≡ 4224) × ((c : ℕ) → c < 22 → ChannelRange (getD channels c noChannel)) ⌝ }
     ensures { λ r. ⌜ (r ≡ summaries channels (now (earth .entry))) × (now (out .exit) ≡ sceneBytes channels (now (earth .entry))) ⌝ }
@@ -156,7 +157,11 @@ fn write_scenes(out: &mut [u8], channels: [Channel; 22], earth: &[u8]) -> [Summa
         let channel = channels[c];
         let from = 192 * c;
         let start = 384 * c;
-        let summary = write_channel(&mut out[start..start + 384], channel, &earth[from..]);
+        let summary = write_channel(
+            &mut out[start..start + 384],
+            channel,
+            &earth[from..from + 192],
+        );
         all[c] = summary;
     }
     all

@@ -19,7 +19,8 @@ use Rattle.integers.proofs.Naturals.{natural-not-negative}
 use Rattle.integers.proofs.Nearest.{r-bounded}
 use Rattle.scene.specs.declared.Constants.{Constants}
 use Rattle.scene.specs.Temperature.{X}
-use Rattle.scene.specs.Scene.{ConstantsRange, numerator}
+use Rattle.scene.specs.Scene.{numerator}
+use Rattle.scene.specs.Ranges.{ConstantsRange}
 use Rattle.scene.specs.Steps.{bendOf}
 
 -- ---- the bend

@@ -1,4 +1,5 @@
 pub mod Temperature
 pub mod Scene
 pub mod Unrounded
+pub mod Ranges
 pub mod Steps

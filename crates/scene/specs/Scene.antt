@@ -2,9 +2,7 @@
 use Prim.Native.Nat.{ℕ, _*_}
 use mathlib.Core.Bool.{true, false, cond}
 use lib.IntN.{ℤ, pos, negℤ, natAbs, _-ℤ_, _*ℤ_}
-use lib.Signed.{_≤ℤ_, _<ℤ_}
 use lib.Ieee.{Float, nan, inf, fin, binary32, round, toBits, up, down}
-use Rattle.integers.specs.Bounds.{Bounded}
 use Rattle.integers.specs.Fractions.{Fraction, _/ᶠ_}
 use Rattle.scene.specs.declared.Scene.{Scene}
 use Rattle.scene.specs.declared.Scene.the-variants.{Kelvin, Flagged, Outside, Guard}
@@ -45,17 +43,3 @@ sceneOf k count =
     let n = numerator k count in
     let t = temperature (k .tc) (k .rise) (k .tnl) (k .d) n in
     cond (outside n (k .d)) Outside (cond (guardFails t) Guard (Kelvin (kelvin (natAbs t))))
-
--- ---- what the constants of a channel with flag 0 under an accepted table keep to
-pub record ConstantsRange (k : Constants) : Type 0 where
-  pub tc-low : pos 11166 ≤ℤ k .tc
-  pub tc-high : k .tc ≤ℤ pos 43934
-  pub rise-low : pos 825032 ≤ℤ k .rise
-  pub rise-high : k .rise ≤ℤ pos 1357512
-  pub tnl : Bounded (k .tnl) (pos 8192)
-  pub d-low : pos 0 <ℤ k .d
-  pub d-high : k .d ≤ℤ pos 51136960500
-  pub slope-low : pos 0 ≤ℤ k .slope
-  pub slope-high : k .slope ≤ℤ pos 780300
-  pub base-low : pos 0 ≤ℤ k .base
-  pub base-high : k .base ≤ℤ pos 51136960500

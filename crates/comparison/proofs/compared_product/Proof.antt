@@ -9,9 +9,10 @@ use mir.Syntax.{w64}
 use mir.Val.{SFits, toZ, ofZ}
 use Rattle.integers.proofs.Machine.{reads-back}
 use Rattle.scene.specs.declared.Constants.{Constants}
-use Rattle.scene.specs.Scene.{ConstantsRange}
+use Rattle.scene.specs.Ranges.{ConstantsRange}
 use Rattle.window.specs.declared.Channel.{Channel}
-use Rattle.product.specs.Scenes.{ChannelRange, noChannel}
+use Rattle.product.specs.Scenes.{noChannel}
+use Rattle.product.specs.Ranges.{ChannelRange}
 use Rattle.product.specs.Product.{productOf, deliveredCount}
 use Rattle.comparison.specs.AlikeChannels.{alikeChannels}
 use borrow.Author.Needs.{needs}

@@ -4,12 +4,11 @@ use Prim.Native.Nat.{ℕ, _+_, _-_, _*_, _≤_}
 use native.Mathlib.Omega.{arith}
 use mathlib.Core.Path.{_≡_, ap, _∙_}
 use mathlib.Core.List.{List, _++_}
-use lib.ListN.{length, getD, replicate, set, take, drop, length-set, length-drop}
-use lib.Seq.{take-all}
+use lib.ListN.{length, getD, replicate, set, drop, length-set}
 use denote.Ref.{now}
 use Rattle.lists.specs.Build.{tabulate, put, filled}
 use Rattle.lists.proofs.Tabulate.{tabulated-none, tabulated-more, tabulated-all}
-use Rattle.lists.proofs.Put.{lent-part-is-put}
+use Rattle.lists.proofs.Put.{part-is-take, lent-part-is-put}
 use Rattle.lists.proofs.Cells.{filled-none, filled-more, filled-all}
 use Rattle.window.specs.declared.Channel.{Channel}
 use Rattle.product.specs.declared.Summary.{Summary}
@@ -27,10 +26,6 @@ module _ (channels : List Channel) (earth : List ℕ) (c : ℕ) where
 
   abbrev bytesAt : List ℕ
   bytesAt = channelScenes (getD channels c noChannel) (earthPart earth c)
-
--- `&earth[from..]`
-rest-is-part : (earth : List ℕ) (from : ℕ) → take (length earth - from) (drop from earth) ≡ drop from earth
-rest-is-part earth from = take-all (length earth - from) (drop from earth) (simp length-drop (omega arith))
 
 abbrev Inv-loop : tie.InvT-loop
 Inv-loop out₀ earth channels all₀ c₀ out all c =
@@ -80,6 +75,9 @@ part-write-channel-start c = omega arith
 part-write-channel-end : tie.Need-part-write-channel-end Inv-loop μ-loop
 part-write-channel-end c = omega arith
 
+add-write-channel-2 : tie.Need-add-write-channel-2 Inv-loop μ-loop
+add-write-channel-2 c = omega arith
+
 sub-write-channel-2 : tie.Need-sub-write-channel-2 Inv-loop μ-loop
 sub-write-channel-2 c = omega arith
 
@@ -115,10 +113,10 @@ loop-again c =
     let earth = now (a .earth) in
     let k = l .loop .c in
     let start = 384 * k in
-    let whole = rest-is-part earth (192 * k) in
+    let lent = part-is-take earth (192 * k) 192 in
     let channel = getD (a .t2) k noChannel in
-    let bytes : w .last .0 ≡ bytesAt (a .t2) earth k = w .ensures .1 ∙ ap (channelScenes channel) whole in
-    let summary : w .result ≡ summaryAt (a .t2) earth k = w .ensures .0 ∙ ap (summaryOf channel) whole in
+    let bytes : w .last .0 ≡ bytesAt (a .t2) earth k = w .ensures .1 ∙ ap (channelScenes channel) lent in
+    let summary : w .result ≡ summaryAt (a .t2) earth k = w .ensures .0 ∙ ap (summaryOf channel) lent in
     let place : start ≡ k * 384 = omega arith in (
       omega arith,
       search needs,
@@ -168,6 +166,7 @@ write-scenes-spec =
     sub-write-channel
     part-write-channel-start
     part-write-channel-end
+    add-write-channel-2
     sub-write-channel-2
     part-write-channel-start-2
     part-write-channel-end-2

@@ -14,7 +14,7 @@ use Rattle.integers.proofs.Bounds.{bounded-size}
 use Rattle.integers.proofs.Order.{below-at-most}
 use Rattle.integers.proofs.Machine.{bounded-fits, reads-back, result-reads-back, unsigned-fits}
 use Rattle.scene.specs.declared.Constants.{Constants}
-use Rattle.scene.specs.Scene.{ConstantsRange}
+use Rattle.scene.specs.Ranges.{ConstantsRange}
 use Rattle.scene.proofs.Ranges.{d-fits, rise-fits, five-d-bounded, rise-bounded, rise-not-negative}
 use Rattle.scene.proofs.scale_of.Statement.{statement}
 use Rattle.scene.proofs.scale_of.Tie as tie

@@ -17,7 +17,8 @@ use Rattle.integers.proofs.Order.{ltZ-false}
 use Rattle.integers.proofs.Machine.{bounded-fits, reads-back, natural-reads-back, floor-fits}
 use Rattle.scene.proofs.Bracket.{top-test}
 use Rattle.scene.specs.declared.Constants.{Constants}
-use Rattle.scene.specs.Scene.{ConstantsRange, numerator}
+use Rattle.scene.specs.Scene.{numerator}
+use Rattle.scene.specs.Ranges.{ConstantsRange}
 use Rattle.scene.proofs.Ranges.{slope-bounded, base-bounded, slope-count-bounded, numerator-bounded, five-d-bounded}
 use Rattle.scene.proofs.Delivered.{temperatureOf, scene-negative, scene-above, scene-guard-low, scene-guard-high, scene-kelvin, WithinGuard, within-guard}
 use Rattle.scene.proofs.scene_of.Statement.{statement}

@@ -15,7 +15,7 @@ use Rattle.integers.proofs.Bounds.{bounded-size}
 use Rattle.integers.proofs.Machine.{reads-back, natural-reads-back, unsigned-fits}
 use Rattle.scene.specs.declared.Constants.{Constants}
 use Rattle.scene.specs.Temperature.{X, temperature}
-use Rattle.scene.specs.Scene.{ConstantsRange}
+use Rattle.scene.specs.Ranges.{ConstantsRange}
 use Rattle.scene.specs.Steps.{scaleOf, Bracket, unsureOf}
 use Rattle.scene.proofs.Ranges.{rise-bounded, rise-not-negative, rise-fits, x-bounded, linear-bounded}
 use Rattle.scene.proofs.Bracket.{low-end-small, linear-nearest, x-nearest, Sure, sure-by}

@@ -8,7 +8,7 @@ use mir.Val.{SFits, toZ, ofZ}
 use Rattle.integers.specs.Bounds.{Bounded}
 use Rattle.integers.proofs.Machine.{bounded-fits, reads-back, result-reads-back}
 use Rattle.scene.specs.declared.Constants.{Constants}
-use Rattle.scene.specs.Scene.{ConstantsRange}
+use Rattle.scene.specs.Ranges.{ConstantsRange}
 use Rattle.scene.specs.Steps.{bendOf}
 use Rattle.scene.proofs.Ranges.{tc-fits, tnl-fits, linear-sum-bounded, units-bounded}
 use Rattle.scene.proofs.units_of.Statement.{statement}
