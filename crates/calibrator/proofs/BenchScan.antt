@@ -15,9 +15,7 @@ use Rattle.lists.proofs.Tabulate.{tabulate-same, each-of-same}
 use Rattle.lists.proofs.Cells.{length-cells, cell-of-cells}
 use Rattle.fields.specs.Numbers.{u16At}
 use Rattle.fields.specs.Fields.{fieldIsRight, layoutIsRight}
-use Rattle.thermometer.specs.declared.Reading.{Reading}
-use Rattle.thermometer.specs.declared.Reading.the-variants.{Units}
-use Rattle.thermometer.specs.Reading.{reading}
+use Rattle.thermometer.specs.Reading.{Result, units, reading}
 use Rattle.thermometer.proofs.Bench.{bench-reading}
 use Rattle.table.specs.declared.Target.{Target}
 use Rattle.table.specs.declared.Target.the-variants.{Kav, Wg}
@@ -75,7 +73,7 @@ means-of-kept = each-of-same _ (λ c. benchMeans (targetOf c)) channels refl
 module _ (earth : ℕ) where
   -- ---- what it keeps
 
-  each-reads-zero : (i : ℕ) → i < thermometers → readingAt benchSettings (instrument (benchScan earth)) i ≡ Units (pos 0)
+  each-reads-zero : (i : ℕ) → i < thermometers → readingAt benchSettings (instrument (benchScan earth)) i ≡ units (pos 0)
   unfolding benchTable benchScan tabulate
   each-reads-zero i below =
       each-of-same (readingAt benchSettings (instrument (benchScan earth))) (λ i. reading 2000000 2000000 3850000 1500000 0 20000 0 20000)
@@ -83,9 +81,9 @@ module _ (earth : ℕ) where
       ∙ bench-reading
 
   -- the row of a target, of anything that a reading gives
-  row-of-target : {A : Type 0} (f : Reading → A) (target : Target)
+  row-of-target : {A : Type 0} (f : Result → A) (target : Target)
       → tabulate (λ i. f (readingAt benchSettings (instrument (benchScan earth)) (firstOf target + i))) (sizeOf target)
-      ≡ tabulate (λ i. f (Units (pos 0))) (sizeOf target)
+      ≡ tabulate (λ i. f (units (pos 0))) (sizeOf target)
   row-of-target f target = tabulate-same _ _ (sizeOf target) (λ i inside. ap f (each-reads-zero (firstOf target + i) (omega (arith, last-at-most target))))
 
   accepted-of-target : (target : Target) → acceptedThermometers benchSettings (instrument (benchScan earth)) target

@@ -7,7 +7,7 @@ use lib.Seq.{take-at, drop-at}
 use Rattle.lists.specs.Tests.{Verdict, passes, fails}
 use Rattle.table.specs.declared.Table.{Table}
 use Rattle.table.specs.Settings.{Settings, settingsOf}
-use Rattle.table.specs.Ranges.{SettingsRange}
+use Rattle.table.specs.ValueRanges.{SettingsRange}
 use Rattle.table.specs.Opening.{ages, AcceptedTable}
 use Rattle.table.proofs.OpeningLaws.{accepted-ranges}
 use Rattle.product.proofs.Bytes.{length-product}

@@ -15,10 +15,9 @@ use Rattle.lists.specs.Build.{tabulate}
 use Rattle.lists.specs.Sum.{sum}
 use Rattle.lists.proofs.Sum.{sum-same}
 use Rattle.lists.proofs.Tabulate.{length-tabulate, getD-tabulate}
-use Rattle.thermometer.specs.declared.Reading.{Reading}
-use Rattle.thermometer.specs.declared.Reading.the-variants.{Units, CoefficientOutside, PamNotAboveOffset, RatioOutside}
 use Rattle.thermometer.specs.Rule.{InRange}
-use Rattle.thermometer.proofs.Answer.{reading-units-in-range}
+use Rattle.thermometer.specs.Reading.{Result, units, refused}
+use Rattle.thermometer.proofs.ReadingLaws.{reading-units-in-range}
 use Rattle.table.specs.declared.Side.{Side}
 use Rattle.table.specs.declared.Side.the-variants.{Warm, Cold}
 use Rattle.table.specs.declared.Target.{Target}
@@ -85,11 +84,9 @@ over-chosen f values flags (suc n) =
     by-flag false = refl
 
 -- no T is 0
-kelvin-above : (s : Settings) (r : Reading) → ((t : _) → r ≡ Units t → InRange t) → inLimits s r ≡ true → kelvin r ≡ 0 → ⊥
-kelvin-above s (Units t) range passed e = let low = kelvin-low (range t refl) in omega arith
-kelvin-above s CoefficientOutside range passed e = false≢true passed
-kelvin-above s PamNotAboveOffset range passed e = false≢true passed
-kelvin-above s RatioOutside range passed e = false≢true passed
+kelvin-above : (s : Settings) (r : Result) → ((t : _) → r ≡ units t → InRange t) → inLimits s r ≡ true → kelvin r ≡ 0 → ⊥
+kelvin-above s (units t) range passed e = let low = kelvin-low (range t refl) in omega arith
+kelvin-above s (refused n) range passed e = false≢true passed
 
 first-of-both : (a b : Bool) → (a && b) ≡ true → a ≡ true
 first-of-both true b e = refl

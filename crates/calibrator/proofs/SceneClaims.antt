@@ -23,7 +23,8 @@ use Rattle.lists.proofs.Tabulate.{getD-tabulate}
 use Rattle.lists.proofs.Sum.{sum-same}
 use Rattle.lists.proofs.Count.{count-same}
 use Rattle.table.specs.Settings.{Settings, channels}
-use Rattle.table.specs.Ranges.{targetOf, SettingsRange}
+use Rattle.table.specs.Ranges.{targetOf}
+use Rattle.table.specs.ValueRanges.{SettingsRange}
 use Rattle.acceptance.specs.declared.Scan.{Scan}
 use Rattle.acceptance.specs.Record.{scanNumber}
 use Rattle.acceptance.proofs.Ranges.{KelvinRange, kept-scan-kelvins}

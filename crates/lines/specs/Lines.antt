@@ -10,11 +10,9 @@ use lib.ListN.{getD, take, drop}
 use Rattle.io.specs.Digits.{digits}
 use Rattle.lists.specs.Build.{tabulate}
 use Rattle.lists.specs.Count.{count}
+use Rattle.lists.specs.Tests.{Verdict, passes, fails}
 use Rattle.fields.specs.Numbers.{u32At}
 use Rattle.fields.specs.Fields.{valueStart}
-use Rattle.table.specs.declared.Opening.{Opening}
-use Rattle.table.specs.declared.Opening.the-variants.{Accepted as TableAccepted, LengthWrong, FieldWrong, ValueOutside}
-use Rattle.table.specs.Opening.{refusal}
 use Rattle.table.specs.Settings.{channels}
 use Rattle.product.specs.Product.{productLayout}
 use Rattle.calibrator.specs.Refusals.{Reply, delivered, refused}
@@ -56,8 +54,6 @@ replyLine (delivered n) product = scanLine (numberIn product) n (flagsIn product
 replyLine (refused n) product = refusedLine n
 
 -- the line of a table's opening; an accepted table has none
-unfoldable pub openingLine : Opening → List ℕ
-openingLine TableAccepted = []
-openingLine LengthWrong = refusedLine (refusal LengthWrong)
-openingLine FieldWrong = refusedLine (refusal FieldWrong)
-openingLine ValueOutside = refusedLine (refusal ValueOutside)
+unfoldable pub openingLine : Verdict → List ℕ
+openingLine passes = []
+openingLine (fails number) = refusedLine number

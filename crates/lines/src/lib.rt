@@ -5,6 +5,7 @@ ghost use Prim.Native.Nat.{_+_, _≤_};
 ghost use lib.ListN.{length};
 ghost use Rattle.io.specs.Counts.{Counts};
 ghost use Rattle.lists.specs.Build.{put};
+ghost use Rattle.table.specs.Opening.{verdictOf};
 ghost use Rattle.calibrator.specs.Refusals.{replyOf};
 ghost use Rattle.calibrator.specs.Feeding.{step, Sound};
 ghost use Rattle.lines.specs.Lines.{decimal, refusedLine, flagDigits, scanLine, replyLine, openingLine};
@@ -119,7 +120,7 @@ pub fn answer_line(answer: Answer, product: &[u8; 8706], out: &mut [u8; LONGEST]
 // The line of a table's opening; an accepted table has none.
 pub fn opening_line(opening: Opening, out: &mut [u8; LONGEST]) -> usize
     ensures { λ r. ⌜ Counts r (now (out .exit)) ⌝ }
-    ensures { λ r. ⌜ (r ≡ length (openingLine opening)) × (now (out .exit) ≡ put (now (out .entry)) 0 (openingLine opening)) ⌝ }
+    ensures { λ r. ⌜ (r ≡ length (openingLine (verdictOf opening))) × (now (out .exit) ≡ put (now (out .entry)) 0 (openingLine (verdictOf opening))) ⌝ }
 {
     match opening {
         Opening::Accepted => 0,

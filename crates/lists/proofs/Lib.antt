@@ -5,3 +5,4 @@ pub mod Cells
 pub mod Count
 pub mod Every
 pub mod Sum
+pub mod Tests

@@ -1,1 +1,1 @@
-// Definitions and laws on lists that several crates use; no code.
+// Definitions and laws on lists, and on tests that run in order, that several crates use; no code.

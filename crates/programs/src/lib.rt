@@ -113,9 +113,8 @@ fn refusals_to(program: Program) -> i32
 fn with_table(program: Program, bytes: &[u8]) {
     let opened = table::open(bytes);
     let answer = opened.answer;
-    let table = opened.table;
     if let Opening::Accepted = answer {
-        each_record(program, Calibrator::fresh(table));
+        each_record(program, Calibrator::fresh(opened.table()));
         return;
     }
     let mut line = [0u8; lines::LONGEST];

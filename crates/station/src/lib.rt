@@ -1,10 +1,9 @@
 // The C functions for stations, declared in include/sounder.h.
 ghost use mathlib.Core.Path.{_≡_};
 ghost use lib.ListN.{length};
-ghost use Rattle.thermometer.specs.Reading.{reading};
-ghost use Rattle.thermometer.specs.Reading.{refusal as Reading·refusal};
+ghost use Rattle.lists.specs.Tests.{numberOf};
+ghost use Rattle.thermometer.specs.Reading.{number, reading};
 ghost use Rattle.table.specs.Opening.{opening};
-ghost use Rattle.table.specs.Opening.{refusal as Opening·refusal};
 ghost use Rattle.station.specs.Calls.{unitsOr, answersBy, buffersBy};
 use calibrator::Calibrator;
 use thermometer::Reading;
@@ -12,7 +11,7 @@ use thermometer::Reading;
 // Document 01, "Opening a table": 0, or 1 to 3.
 #[no_mangle]
 pub extern "C" fn sounder_open(table: &[u8]) -> u8
-    ensures { λ n. ⌜ n ≡ Opening·refusal (opening (now (table .entry))) ⌝ }
+    ensures { λ n. ⌜ n ≡ numberOf (opening (now (table .entry))) ⌝ }
 {
     let opened = table::open(table);
     let answer = opened.answer;
@@ -32,7 +31,7 @@ pub extern "C" fn sounder_thermometer(
     count: u16,
     t: &mut i32,
 ) -> u8
-    ensures { λ n. ⌜ (n ≡ Reading·refusal (reading «r_pam» r0 alpha delta beta pam offset count)) × (now (t .exit) ≡ unitsOr (reading «r_pam» r0 alpha delta beta pam offset count) (now (t .entry))) ⌝ }
+    ensures { λ n. ⌜ (n ≡ number (reading «r_pam» r0 alpha delta beta pam offset count)) × (now (t .exit) ≡ unitsOr (reading «r_pam» r0 alpha delta beta pam offset count) (now (t .entry))) ⌝ }
 {
     let answer = thermometer::thermometer(r_pam, r0, alpha, delta, beta, pam, offset, count);
     match answer {
@@ -56,7 +55,7 @@ pub extern "C" fn sounder_feed_all(
     buffer_lengths: &[u32],
     answers: &mut [u8],
 ) -> u8
-    ensures { λ n. ⌜ (n ≡ Opening·refusal (opening (now (table .entry)))) × (now (answers .exit) ≡ answersBy (opening (now (table .entry))) (now (table .entry)) (now (records .entry)) (now («record_lengths» .entry)) (now (buffers .entry)) (now («buffer_lengths» .entry)) (now (answers .entry))) × (now (buffers .exit) ≡ buffersBy (opening (now (table .entry))) (now (table .entry)) (now (records .entry)) (now («record_lengths» .entry)) (now (buffers .entry)) (now («buffer_lengths» .entry)) (length (now (answers .entry)))) ⌝ }
+    ensures { λ n. ⌜ (n ≡ numberOf (opening (now (table .entry)))) × (now (answers .exit) ≡ answersBy (opening (now (table .entry))) (now (table .entry)) (now (records .entry)) (now («record_lengths» .entry)) (now (buffers .entry)) (now («buffer_lengths» .entry)) (now (answers .entry))) × (now (buffers .exit) ≡ buffersBy (opening (now (table .entry))) (now (table .entry)) (now (records .entry)) (now («record_lengths» .entry)) (now (buffers .entry)) (now («buffer_lengths» .entry)) (length (now (answers .entry)))) ⌝ }
 {
     let opened = table::open(table);
     let answer = opened.answer;
@@ -64,7 +63,7 @@ pub extern "C" fn sounder_feed_all(
     if number != 0 {
         return number;
     }
-    let accepted = opened.table;
+    let accepted = opened.table();
     calibrator::feed_list(
         Calibrator::fresh(accepted),
         records,

@@ -1,20 +1,20 @@
 -- What opening answers, case by case; what an accepted table is; that the bytes beside a refusal are no accepted table.
 use Prim.Native.Nat.{ℕ}
 use native.Mathlib.Omega.{arith}
-use mathlib.Core.Path.{_≡_, refl, sym, ap, _∙_}
+use mathlib.Core.Path.{_≡_, refl, ap, _∙_}
 use mathlib.Core.List.{List, [], _∷_}
-use mathlib.Core.Bool.{Bool, true, false, not, cond, and-eq-true-iff}
+use mathlib.Core.Bool.{Bool, true, false, not, and-eq-true-iff}
 use lib.Dec.{eqb}
 use lib.ListN.{length, getD, replicate}
-use borrow.Author.Tests.{eq-eqb, ne-eqb, eqb-true}
+use borrow.Author.Tests.{eq-eqb, ne-eqb, eqb-true, not-false}
+use Rattle.lists.specs.Tests.{Verdict, passes, fails, _when_, firstThatApplies}
+use Rattle.lists.proofs.Tests.{none-applies}
 use Rattle.fields.specs.Fields.{fieldIsRight, layoutOf, layoutIsRight}
 use Rattle.fields.proofs.LayoutLaws.{first-when-right}
-use Rattle.table.specs.declared.Opening.{Opening}
-use Rattle.table.specs.declared.Opening.the-variants.{Accepted, LengthWrong, FieldWrong, ValueOutside}
-use Rattle.table.specs.declared.Opened.{Opened}
 use Rattle.table.specs.Settings.{tableLayout, settingsOf}
-use Rattle.table.specs.Ranges.{valuesInside, SettingsRange}
-use Rattle.table.specs.Opening.{ages, refusal, opening, AcceptedTable, openedAs, opened, noTable}
+use Rattle.table.specs.Ranges.{valuesInside}
+use Rattle.table.specs.ValueRanges.{SettingsRange}
+use Rattle.table.specs.Opening.{ages, opening, AcceptedTable, tableBy}
 use Rattle.table.proofs.Ranges.{values-in-range}
 
 -- the layout that `open` lends to the reader of fields
@@ -25,32 +25,31 @@ lent-layout = refl
 -- ---- the answer from the tests
 
 module _ (bytes : List ℕ) where
-  pub opened-length-wrong : (length bytes ≡ 741 → ⊥) → opened bytes ≡ noTable LengthWrong
-  unfolding opening openedAs
-  opened-length-wrong wrong = rw (ne-eqb (length bytes) 741 wrong)
+  pub opening-length-wrong : (length bytes ≡ 741 → ⊥) → opening bytes ≡ fails 1
+  unfolding opening
+  opening-length-wrong wrong = rw (ne-eqb (length bytes) 741 wrong)
 
   module _ (long : length bytes ≡ 741) where
-    pub opened-field-wrong : layoutIsRight bytes 0 (tableLayout ages) ≡ false → opened bytes ≡ noTable FieldWrong
-    unfolding opening openedAs
-    opened-field-wrong wrong = rw (eq-eqb (length bytes) 741 long, wrong)
+    pub opening-field-wrong : layoutIsRight bytes 0 (tableLayout ages) ≡ false → opening bytes ≡ fails 2
+    unfolding opening
+    opening-field-wrong wrong = rw (eq-eqb (length bytes) 741 long, wrong)
 
     module _ (right : layoutIsRight bytes 0 (tableLayout ages) ≡ true) where
-      pub opened-value-outside : valuesInside (settingsOf ages bytes) ≡ false → opened bytes ≡ noTable ValueOutside
-      unfolding opening openedAs
-      opened-value-outside outside = rw (eq-eqb (length bytes) 741 long, right, outside)
+      pub opening-value-outside : valuesInside (settingsOf ages bytes) ≡ false → opening bytes ≡ fails 3
+      unfolding opening
+      opening-value-outside outside = rw (eq-eqb (length bytes) 741 long, right, outside)
 
-      pub opened-whole : valuesInside (settingsOf ages bytes) ≡ true → opened bytes ≡ record { answer = Accepted; table = record { bytes = bytes } }
-      unfolding opening openedAs
-      opened-whole inside = rw (eq-eqb (length bytes) 741 long, right, inside)
+      pub opening-passes : valuesInside (settingsOf ages bytes) ≡ true → opening bytes ≡ passes
+      unfolding opening
+      opening-passes inside = rw (eq-eqb (length bytes) 741 long, right, inside)
 
 -- ---- the tests from the answer
 
-passed-all : (long right inside : Bool) → cond (not long) LengthWrong (cond (not right) FieldWrong (cond (not inside) ValueOutside Accepted)) ≡ Accepted
+passed-all : (long right inside : Bool) → firstThatApplies ((1 when not long) ∷ (2 when not right) ∷ (3 when not inside) ∷ []) ≡ passes
     → (long ≡ true) × (right ≡ true) × (inside ≡ true)
-passed-all true true true accepted = (refl, refl, refl)
-passed-all true true false accepted = absurd (omega (arith, ap refusal accepted))
-passed-all true false inside accepted = absurd (omega (arith, ap refusal accepted))
-passed-all false right inside accepted = absurd (omega (arith, ap refusal accepted))
+passed-all long right inside passed =
+    let none = none-applies ((1 when not long) ∷ (2 when not right) ∷ (3 when not inside) ∷ []) passed in
+    (not-false long (none .0), not-false right (none .1 .0), not-false inside (none .1 .1 .0))
 
 module _ {bytes : List ℕ} (table : AcceptedTable bytes) where
   accepted-tests : (eqb (length bytes) 741 ≡ true) × (layoutIsRight bytes 0 (tableLayout ages) ≡ true) × (valuesInside (settingsOf ages bytes) ≡ true)
@@ -66,26 +65,15 @@ module _ {bytes : List ℕ} (table : AcceptedTable bytes) where
   pub accepted-ranges : SettingsRange (settingsOf ages bytes)
   accepted-ranges = values-in-range (settingsOf ages bytes) (accepted-tests .2)
 
--- ---- the answer of `opened` is that of `opening`
+-- ---- the table beside the answer
 
-pub answer-of-opened : (answer : Opening) (bytes : List ℕ) → openedAs answer bytes .answer ≡ answer
-unfolding openedAs noTable
-answer-of-opened Accepted bytes = refl
-answer-of-opened LengthWrong bytes = refl
-answer-of-opened FieldWrong bytes = refl
-answer-of-opened ValueOutside bytes = refl
+module _ (bytes : List ℕ) {table : List ℕ} (opened : table ≡ tableBy (opening bytes) bytes) (passed : opening bytes ≡ passes) where
+  pub table-when-passed : table ≡ bytes
+  table-when-passed = opened ∙ ap (λ (verdict : Verdict). tableBy verdict bytes) passed
 
-bytes-of-accepted : (bytes : List ℕ) → openedAs Accepted bytes .table .bytes ≡ bytes
-unfolding openedAs
-bytes-of-accepted bytes = refl
-
--- the table beside an accepted answer is an accepted one, which `fresh` asks
-pub accepted-when-opened : (bytes : List ℕ) {o : Opened} → o ≡ opened bytes → o .answer ≡ Accepted → AcceptedTable (o .table .bytes)
-accepted-when-opened bytes opens answered =
-    let accepted : opening bytes ≡ Accepted =
-    sym (answer-of-opened (opening bytes) bytes) ∙ sym (ap (λ (o : Opened). o .answer) opens) ∙ answered in
-    let same = ap (λ (o : Opened). o .table .bytes) opens ∙ ap (λ (o : Opening). openedAs o bytes .table .bytes) accepted ∙ bytes-of-accepted bytes in
-    record { accepted = ap opening same ∙ accepted }
+  -- it is an accepted one, which `fresh` asks
+  pub accepted-when-passed : AcceptedTable table
+  accepted-when-passed = record { accepted = ap opening table-when-passed ∙ passed }
 
 -- ---- a table begins with its first tag, so that bytes of 0 are none
 

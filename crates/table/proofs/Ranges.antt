@@ -16,7 +16,8 @@ use Rattle.table.specs.declared.Target.{Target}
 use Rattle.table.specs.declared.Target.the-variants.{Kav, Wg}
 use Rattle.table.specs.declared.Thermometer.{Thermometer}
 use Rattle.table.specs.Settings.{Channel, Settings, thermometers, channels}
-use Rattle.table.specs.Ranges.{sizeTo, leastsInside, thermometerLimitsInside, thermometerInside, channelInside, weightOf, sumsInside, valuesInside, Between, ThermometerRange, ChannelRange, SettingsRange}
+use Rattle.table.specs.Ranges.{sizeTo, leastsInside, thermometerLimitsInside, thermometerInside, channelInside, weightOf, sumsInside, valuesInside}
+use Rattle.table.specs.ValueRanges.{Between, ThermometerRange, ChannelRange, SettingsRange}
 
 -- ---- one test
 both : (a b : Bool) → (a && b) ≡ true → (a ≡ true) × (b ≡ true)

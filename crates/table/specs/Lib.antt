@@ -1,3 +1,4 @@
 pub mod Settings
 pub mod Ranges
 pub mod Opening
+pub mod ValueRanges

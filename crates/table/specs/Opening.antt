@@ -2,14 +2,14 @@
 -- outside its range. A refusal gives its number and no table.
 use Prim.Native.Nat.{ℕ}
 use mathlib.Core.Path.{_≡_}
-use mathlib.Core.List.{List}
-use mathlib.Core.Bool.{not, cond}
+use mathlib.Core.List.{List, [], _∷_}
+use mathlib.Core.Bool.{not}
 use lib.Dec.{eqb}
 use lib.ListN.{length, replicate}
+use Rattle.lists.specs.Tests.{Verdict, passes, fails, _when_, firstThatApplies}
 use Rattle.fields.specs.Fields.{layoutSize, layoutIsRight}
 use Rattle.table.specs.declared.Opening.{Opening}
 use Rattle.table.specs.declared.Opening.the-variants.{Accepted, LengthWrong, FieldWrong, ValueOutside}
-use Rattle.table.specs.declared.Opened.{Opened}
 use Rattle.table.specs.Settings.{tableLayout, settingsOf}
 use Rattle.table.specs.Ranges.{valuesInside}
 
@@ -17,33 +17,26 @@ use Rattle.table.specs.Ranges.{valuesInside}
 abbrev pub ages : ℕ
 ages = 8
 
--- document 01's number for each case of the answer; an accepted table has none, and 0 stands for that
-abbrev pub refusal : Opening → ℕ
-refusal Accepted = 0
-refusal LengthWrong = 1
-refusal FieldWrong = 2
-refusal ValueOutside = 3
+-- document 01's number for each case of the code's answer
+abbrev pub verdictOf : Opening → Verdict
+verdictOf Accepted = passes
+verdictOf LengthWrong = fails 1
+verdictOf FieldWrong = fails 2
+verdictOf ValueOutside = fails 3
 
-unfoldable pub opening : List ℕ → Opening
+unfoldable pub opening : List ℕ → Verdict
 opening bytes =
-    cond (not (eqb (length bytes) (layoutSize (tableLayout ages)))) LengthWrong
-    (cond (not (layoutIsRight bytes 0 (tableLayout ages))) FieldWrong
-    (cond (not (valuesInside (settingsOf ages bytes))) ValueOutside
-    Accepted))
+    firstThatApplies
+    ((1 when not (eqb (length bytes) (layoutSize (tableLayout ages))))
+    ∷ (2 when not (layoutIsRight bytes 0 (tableLayout ages)))
+    ∷ (3 when not (valuesInside (settingsOf ages bytes)))
+    ∷ [])
 
 -- opening meets no refusal
 pub record AcceptedTable (bytes : List ℕ) : Type 0 where
-  pub accepted : opening bytes ≡ Accepted
+  pub accepted : opening bytes ≡ passes
 
--- a refusal gives no table: 741 bytes of 0 stand beside it, of which `AcceptedTable` does not hold (decision 21)
-unfoldable pub noTable : Opening → Opened
-noTable answer = record { answer = answer; table = record { bytes = replicate 741 0 } }
-
-unfoldable pub openedAs : Opening → List ℕ → Opened
-openedAs Accepted bytes = record { answer = Accepted; table = record { bytes = bytes } }
-openedAs LengthWrong bytes = noTable LengthWrong
-openedAs FieldWrong bytes = noTable FieldWrong
-openedAs ValueOutside bytes = noTable ValueOutside
-
-abbrev pub opened : List ℕ → Opened
-opened bytes = openedAs (opening bytes) bytes
+-- an accepted table is its bytes; beside a refusal stand 741 bytes of 0, of which `AcceptedTable` does not hold (decision 21)
+abbrev pub tableBy : Verdict → List ℕ → List ℕ
+tableBy passes bytes = bytes
+tableBy (fails n) bytes = replicate 741 0

@@ -1,13 +1,14 @@
 // Document 01, "The table" and "Opening a table".
 ghost use mathlib.Core.Path.{_≡_};
 ghost use Prim.Native.Nat.{_+_, _*_, _<_, _≤_};
-ghost use lib.ListN.{length, getD};
+ghost use lib.ListN.{length, getD, replicate};
 ghost use Rattle.lists.specs.Sum.{sum};
 ghost use Rattle.lists.specs.Count.{every};
+ghost use Rattle.lists.specs.Tests.{numberOf};
 ghost use Rattle.thermometer.specs.Reading.{fromTo};
 ghost use Rattle.table.specs.Settings.{settingsOf, channelAt, thermometerAt, limitsAt, limitsOf, leastOf, percentOf, correctionsOf, thermometers, channels};
 ghost use Rattle.table.specs.Ranges.{sizeTo, leastsInside, thermometerLimitsInside, thermometerInside, channelInside, sumsInside, valuesInside, firstOf, sizeOf, weightOf, targetOf};
-ghost use Rattle.table.specs.Opening.{ages, refusal, opened, noTable};
+ghost use Rattle.table.specs.Opening.{ages, verdictOf, opening, tableBy};
 
 // An opened table. Only `open` makes one.
 pub struct Table {
@@ -25,7 +26,7 @@ pub enum Opening {
 // The answer, and beside it the table where it is accepted.
 pub struct Opened {
     pub answer: Opening,
-    pub table: Table,
+    table: Table,
 }
 
 // Warm counts or cold counts.
@@ -418,7 +419,7 @@ pub fn target_of(c: usize) -> Target
 
 // Document 01's number for an answer; 0 for an accepted table.
 pub fn refusal_number(answer: Opening) -> u8
-    ensures { λ n. ⌜ n ≡ refusal answer ⌝ }
+    ensures { λ n. ⌜ n ≡ numberOf (verdictOf answer) ⌝ }
 {
     match answer {
         Opening::Accepted => 0,
@@ -430,7 +431,7 @@ pub fn refusal_number(answer: Opening) -> u8
 
 // A refusal gives no table: its bytes are all 0.
 fn refused(answer: Opening) -> Opened
-    ensures { λ r. ⌜ r ≡ noTable answer ⌝ }
+    ensures { λ r. ⌜ (r .answer ≡ answer) × (r .table .bytes ≡ replicate 741 0) ⌝ }
 {
     Opened {
         answer,
@@ -440,7 +441,7 @@ fn refused(answer: Opening) -> Opened
 
 // Opening a table: any bytes.
 pub fn open(bytes: &[u8]) -> Opened
-    ensures { λ r. ⌜ r ≡ opened (now (bytes .entry)) ⌝ }
+    ensures { λ r. ⌜ (verdictOf (r .answer) ≡ opening (now (bytes .entry))) × (r .table .bytes ≡ tableBy (opening (now (bytes .entry))) (now (bytes .entry))) ⌝ }
 {
     if bytes.len() != 741 {
         return refused(Opening::LengthWrong);
@@ -456,6 +457,15 @@ pub fn open(bytes: &[u8]) -> Opened
     Opened {
         answer: Opening::Accepted,
         table: Table { bytes: copy },
+    }
+}
+
+impl Opened {
+    // The table where it is accepted, for a fresh calibrator.
+    pub fn table(self) -> Table
+        ensures { λ r. ⌜ r ≡ self .table ⌝ }
+    {
+        self.table
     }
 }
 

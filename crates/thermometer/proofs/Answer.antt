@@ -1,18 +1,15 @@
--- The answer is the greatest t with F(t) at most M; where a thermometer gives a t, it is that one, and in the range.
+-- The answer is the greatest t with F(t) at most M, and F rises, so one place that isn't reached bounds all that are.
 use mathlib.Core.Path.{_≡_, refl, sym, ap, subst, _∙_}
-use mathlib.Core.Bool.{Bool, true, false, not, _&&_, cond, true≢false}
+use mathlib.Core.Bool.{Bool, true, false, cond, true≢false}
 use Prim.Native.Nat.{ℕ, zero, suc, _≤_, _<_}
 use native.Mathlib.Decide.{decLe, decLt}
 use native.Mathlib.Omega.{arith}
-use lib.Dec.{leb, ltb}
 use lib.IntN.{ℤ}
-use lib.Signed.{_≤ℤ_, _<ℤ_, leZ, ltZ, clashℤ}
-use Rattle.integers.proofs.Order.{at-most-trans, leZ-true, ltZ-false, at-most-test}
-use Rattle.thermometer.specs.declared.Reading.{Reading}
-use Rattle.thermometer.specs.declared.Reading.the-variants.{Units, CoefficientOutside, PamNotAboveOffset, RatioOutside}
-use Rattle.thermometer.specs.Rule.{M, F, lowest, highest, unitsAt, greatest, answer, InRange, Greatest}
-use Rattle.thermometer.specs.Search.{AllReachedBefore}
-use Rattle.thermometer.specs.Reading.{Admissible, refusal, resistanceInside, coefficientsInside, reading}
+use lib.Signed.{_≤ℤ_, _<ℤ_, leZ, clashℤ}
+use Rattle.integers.proofs.Order.{at-most-trans, leZ-true, at-most-test}
+use Rattle.thermometer.specs.Rule.{F, lowest, unitsAt, greatest, answer, Greatest}
+use Rattle.thermometer.specs.Steps.{AllReachedBefore}
+use Rattle.thermometer.specs.Ranges.{Admissible}
 use Rattle.thermometer.proofs.Rises.{rises-over}
 use Rattle.thermometer.proofs.Places.{place-in-range, placeOf, place-of, place-at-most, units-order}
 
@@ -88,30 +85,3 @@ reached-before admissible past inside above j h reached = go (decLt j past)
     go (no after) =
         let from : past ≤ j = omega arith in
         clashℤ above (at-most-trans (rises-over admissible (place-in-range inside) (place-in-range h) (units-order from)) reached)
-
--- ---- one thermometer that gives a t
--- a choice between a refusal and something else gives a t only by the second
-not-refused : (b : Bool) (r x : Reading) {t : ℤ} → 0 < refusal r → cond b r x ≡ Units t → (b ≡ false) × (x ≡ Units t)
-not-refused true r x h e = absurd (clash (ap refusal e))
-  where
-    clash : refusal r ≡ 0 → ⊥
-    clash z = omega arith
-not-refused false r x h e = (refl, e)
-
-pub reading-units-greatest : (rPam r0 alpha delta beta pam offset count : ℕ) {t : ℤ} → reading rPam r0 alpha delta beta pam offset count ≡ Units t → Greatest alpha delta beta (M rPam r0 pam offset count) t
-unfolding reading
-reading-units-greatest rPam r0 alpha delta beta pam offset count {t} e =
-    let m = M rPam r0 pam offset count in
-    let high : Reading = cond (ltZ (F alpha delta beta highest) m) RatioOutside (Units (answer alpha delta beta m)) in
-    let low : Reading = cond (ltZ m (F alpha delta beta lowest)) RatioOutside high in
-    let counted : Reading = cond (ltb count offset) RatioOutside low in
-    let past-ranges = not-refused (not (resistanceInside rPam && coefficientsInside r0 alpha delta beta)) CoefficientOutside (cond (leb pam offset) PamNotAboveOffset counted) (omega arith) e in
-    let past-pam = not-refused (leb pam offset) PamNotAboveOffset counted (omega arith) (past-ranges .1) in
-    let past-count = not-refused (ltb count offset) RatioOutside low (omega arith) (past-pam .1) in
-    let past-lowest = not-refused (ltZ m (F alpha delta beta lowest)) RatioOutside high (omega arith) (past-count .1) in
-    let past-highest = not-refused (ltZ (F alpha delta beta highest) m) RatioOutside (Units (answer alpha delta beta m)) (omega arith) (past-lowest .1) in
-    let same : answer alpha delta beta m ≡ t = cc (past-highest .1) in
-    subst (Greatest alpha delta beta m) same (answer-greatest alpha delta beta m (ltZ-false (past-lowest .0)))
-
-pub reading-units-in-range : (rPam r0 alpha delta beta pam offset count : ℕ) {t : ℤ} → reading rPam r0 alpha delta beta pam offset count ≡ Units t → InRange t
-reading-units-in-range rPam r0 alpha delta beta pam offset count e = reading-units-greatest rPam r0 alpha delta beta pam offset count e .inside

@@ -6,9 +6,9 @@ use native.Mathlib.Omega.{arith}
 use lib.IntN.{ℤ, pos}
 use lib.Signed.{_≤ℤ_, _<ℤ_, leZ-yes, ltZ-yes}
 use Rattle.integers.specs.Rounding.{floor}
-use Rattle.thermometer.specs.declared.Reading.the-variants.{Units}
 use Rattle.thermometer.specs.Rule.{M, q, s1, y, w, h, s2, F, unitsAt, answer}
-use Rattle.thermometer.specs.Reading.{Admissible, reading}
+use Rattle.thermometer.specs.Ranges.{Admissible}
+use Rattle.thermometer.specs.Reading.{units, reading}
 use Rattle.thermometer.proofs.Answer.{reached-before, answer-is}
 
 pub H1 : F 3850000 1500000 0 (pos 0) ≡ pos 16777216
@@ -47,6 +47,6 @@ answer-at-one : answer 3850000 1500000 0 (pos 16777216) ≡ pos 0
 answer-at-one = answer-at-place 245760 (pos 16777216) (omega arith) H1 F-at-1 (leZ-yes tt) (ltZ-yes tt)
 
 -- PAM and the thermometer count 20,000, offset 0, all R 2,000,000
-pub bench-reading : reading 2000000 2000000 3850000 1500000 0 20000 0 20000 ≡ Units (pos 0)
+pub bench-reading : reading 2000000 2000000 3850000 1500000 0 20000 0 20000 ≡ units (pos 0)
 unfolding reading M F s1 s2 h w y q floor
-bench-reading = ap Units answer-at-one
+bench-reading = ap units answer-at-one

@@ -11,7 +11,7 @@ use Rattle.integers.proofs.Bounds.{bounded-sum, bounded-difference, bounded-pro
 use Rattle.integers.proofs.Machine.{bounded-fits}
 use Rattle.integers.proofs.Floor.{floor-bounded}
 use Rattle.thermometer.specs.Rule.{one, q, s1, y, w, h, s2, F, InRange}
-use Rattle.thermometer.specs.Reading.{Admissible}
+use Rattle.thermometer.specs.Ranges.{Admissible}
 
 -- what F multiplies by alpha
 abbrev pub bracket : (delta beta : ℕ) → ℤ → ℤ

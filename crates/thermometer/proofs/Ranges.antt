@@ -5,7 +5,8 @@ use Prim.Native.Nat.{ℕ, _≤_}
 use native.Mathlib.Omega.{arith}
 use lib.Dec.{T, leb}
 use borrow.Author.Tests.{leb-true}
-use Rattle.thermometer.specs.Reading.{Admissible, fromTo, resistanceInside, coefficientsInside}
+use Rattle.thermometer.specs.Ranges.{Admissible}
+use Rattle.thermometer.specs.Reading.{fromTo, resistanceInside, coefficientsInside}
 
 pub both-true : (a b : Bool) → (a && b) ≡ true → (a ≡ true) × (b ≡ true)
 both-true true b e = (refl, e)

@@ -14,7 +14,7 @@ use Rattle.integers.proofs.Certificate.{_:≤_, _:<_, hyp, nat, sqr, _⊕_, _�
 use Rattle.integers.proofs.Floor.{floor-high, floor-rise}
 use Rattle.integers.specs.Rounding.{floor}
 use Rattle.thermometer.specs.Rule.{q, s1, y, w, h, s2, F, InRange}
-use Rattle.thermometer.specs.Reading.{Admissible}
+use Rattle.thermometer.specs.Ranges.{Admissible}
 use Rattle.thermometer.proofs.Bounds.{bracket, y-bounded, w-bounded}
 
 w-not-negative : (t : ℤ) → pos 0 ≤ℤ w t

@@ -21,8 +21,8 @@ use Rattle.integers.proofs.Certificate.{_:≤_, _:<_, hyp, _⊕_, _⊗_, le-by,
 use Rattle.integers.proofs.Bounds.{bounded-sum, bounded-difference, bounded-product, bounded-weaker, number-bounded}
 use Rattle.integers.proofs.Floor.{floor-bounded}
 use Rattle.thermometer.specs.Rule.{one, F, lowest, unitsAt, InRange}
-use Rattle.thermometer.specs.Reading.{Admissible}
-use Rattle.thermometer.specs.Search.{heldBetween, onLine, onChord, nearbyUnits, reachedAt, pastAt, AllReachedBefore, Encloses}
+use Rattle.thermometer.specs.Ranges.{Admissible}
+use Rattle.thermometer.specs.Steps.{heldBetween, onLine, onChord, nearbyUnits, reachedAt, pastAt, AllReachedBefore, Encloses}
 use Rattle.thermometer.proofs.Bounds.{fits, t-bounded, F-bounded}
 use Rattle.thermometer.proofs.Rises.{rises-strictly}
 use Rattle.thermometer.proofs.Answer.{reached-before}

@@ -1,3 +1,4 @@
 pub mod Rule
-pub mod Search
 pub mod Reading
+pub mod Ranges
+pub mod Steps

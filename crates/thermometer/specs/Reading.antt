@@ -1,18 +1,31 @@
 -- Document 01, "One thermometer".
-use Prim.Native.Nat.{ℕ, _≤_}
-use mathlib.Core.Bool.{Bool, not, _&&_, cond}
+use Prim.Native.Nat.{ℕ}
+use mathlib.Core.List.{List, [], _∷_}
+use mathlib.Core.Bool.{Bool, not, _&&_}
 use lib.Dec.{leb, ltb}
+use lib.IntN.{ℤ}
 use lib.Signed.{ltZ}
+use Rattle.lists.specs.Tests.{Verdict, passes, fails, Test, _when_, firstThatApplies}
 use Rattle.thermometer.specs.declared.Reading.{Reading}
 use Rattle.thermometer.specs.declared.Reading.the-variants.{Units, CoefficientOutside, PamNotAboveOffset, RatioOutside}
 use Rattle.thermometer.specs.Rule.{M, F, answer, lowest, highest}
 
--- document 01's number for each case of the answer; a temperature has none, and 0 stands for that
-abbrev pub refusal : Reading → ℕ
-refusal (Units t) = 0
-refusal CoefficientOutside = 8
-refusal PamNotAboveOffset = 9
-refusal RatioOutside = 10
+-- what One thermometer gives: t in units of °C, or the number of its refusal
+pub data Result : Type 0 where
+  units : ℤ → Result
+  refused : ℕ → Result
+
+-- the number of a result; 0, which is no refusal of document 01, beside a t
+abbrev pub number : Result → ℕ
+number (units t) = 0
+number (refused n) = n
+
+-- document 01's number and value for each case of the code's answer
+abbrev pub resultOf : Reading → Result
+resultOf (Units t) = units t
+resultOf CoefficientOutside = refused 8
+resultOf PamNotAboveOffset = refused 9
+resultOf RatioOutside = refused 10
 
 -- ---- the ranges of R_PAM and R0 and of the coefficients (document 01, "The table")
 abbrev pub fromTo : ℕ → ℕ → ℕ → Bool
@@ -25,21 +38,23 @@ abbrev pub coefficientsInside : (r0 alpha delta beta : ℕ) → Bool
 coefficientsInside r0 alpha delta beta =
     resistanceInside r0 && (fromTo 3000000 5000000 alpha && (leb delta 2000000 && leb beta 500000))
 
--- the same as orders
-pub record Admissible (alpha delta beta : ℕ) : Type 0 where
-  pub alpha-low : 3000000 ≤ alpha
-  pub alpha-high : alpha ≤ 5000000
-  pub delta-high : delta ≤ 2000000
-  pub beta-high : beta ≤ 500000
-
--- Refuses with 8 if R_PAM or a coefficient is outside, 9 if PAM isn't above offset, 10 if the count is below offset, M below
--- F(-245,760) or M above F(245,760).
-unfoldable pub reading : (rPam r0 alpha delta beta pam offset count : ℕ) → Reading
-reading rPam r0 alpha delta beta pam offset count =
+-- 8 if R_PAM or a coefficient is outside, 9 if PAM isn't above offset, 10 if the count is below offset, M below F(-245,760) or M above
+-- F(245,760)
+abbrev pub tests : (rPam r0 alpha delta beta pam offset count : ℕ) → List Test
+tests rPam r0 alpha delta beta pam offset count =
     let m = M rPam r0 pam offset count in
-    cond (not (resistanceInside rPam && coefficientsInside r0 alpha delta beta)) CoefficientOutside
-    (cond (leb pam offset) PamNotAboveOffset
-    (cond (ltb count offset) RatioOutside
-    (cond (ltZ m (F alpha delta beta lowest)) RatioOutside
-    (cond (ltZ (F alpha delta beta highest) m) RatioOutside
-    (Units (answer alpha delta beta m))))))
+    (8 when not (resistanceInside rPam && coefficientsInside r0 alpha delta beta))
+    ∷ (9 when leb pam offset)
+    ∷ (10 when ltb count offset)
+    ∷ (10 when ltZ m (F alpha delta beta lowest))
+    ∷ (10 when ltZ (F alpha delta beta highest) m)
+    ∷ []
+
+-- the answer where no test applies, and else the number alone
+abbrev pub resultBy : Verdict → ℤ → Result
+resultBy passes t = units t
+resultBy (fails n) t = refused n
+
+unfoldable pub reading : (rPam r0 alpha delta beta pam offset count : ℕ) → Result
+reading rPam r0 alpha delta beta pam offset count =
+    resultBy (firstThatApplies (tests rPam r0 alpha delta beta pam offset count)) (answer alpha delta beta (M rPam r0 pam offset count))

@@ -5,8 +5,9 @@ ghost use lib.IntN.{pos, _+ℤ_};
 ghost use lib.Signed.{_≤ℤ_};
 ghost use Rattle.integers.specs.Bounds.{Bounded};
 ghost use Rattle.thermometer.specs.Rule.{M, F, answer, lowest, unitsAt, InRange};
-ghost use Rattle.thermometer.specs.Search.{heldBetween, onLine, onChord, nearbyUnits, reachedAt, pastAt, Encloses};
-ghost use Rattle.thermometer.specs.Reading.{Admissible, resistanceInside, coefficientsInside, reading};
+ghost use Rattle.thermometer.specs.Steps.{heldBetween, onLine, onChord, nearbyUnits, reachedAt, pastAt, Encloses};
+ghost use Rattle.thermometer.specs.Ranges.{Admissible};
+ghost use Rattle.thermometer.specs.Reading.{resistanceInside, coefficientsInside, resultOf, reading};
 use integers::floor_div;
 
 // What one thermometer gives: t in units of °C, or why there is none.
@@ -192,7 +193,7 @@ pub fn thermometer(
     offset: u16,
     count: u16,
 ) -> Reading
-    ensures { λ t. ⌜ t ≡ reading rpam r0 alpha delta beta pam offset count ⌝ }
+    ensures { λ t. ⌜ resultOf t ≡ reading rpam r0 alpha delta beta pam offset count ⌝ }
 {
     if !resistance_inside(rpam) {
         return Reading::CoefficientOutside;

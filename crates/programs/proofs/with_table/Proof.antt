@@ -1,5 +1,8 @@
 -- `with_table` is safe and ends: a table that opening accepted is an accepted table, which `fresh` asks.
-use Rattle.table.proofs.OpeningLaws.{accepted-when-opened}
+use mathlib.Core.Path.{ap, sym, _∙_}
+use Rattle.table.specs.declared.Table.{Table}
+use Rattle.table.specs.Opening.{verdictOf}
+use Rattle.table.proofs.OpeningLaws.{accepted-when-passed}
 use borrow.Author.Needs.{needs}
 use Rattle.programs.proofs.with_table.Statement.{statement}
 use Rattle.programs.proofs.with_table.Tie as tie
@@ -10,8 +13,14 @@ open-requires c κs = search needs
 enum-told : tie.Need-enum-told
 enum-told c = search needs
 
+table-requires : tie.Need-table-requires
+table-requires c κs = search needs
+
 fresh-requires : tie.Need-fresh-requires
-fresh-requires c κs = accepted-when-opened _ (c .before .before .before .«open» .ensures) (c .enum-told .given .1)
+fresh-requires c κs =
+    let opened = c .before .before .before .«open» .ensures in
+    accepted-when-passed _ (ap (λ (t : Table). t .bytes) (c .table .ensures) ∙ opened .1)
+    (sym (opened .0) ∙ ap verdictOf (c .before .enum-told .given .1))
 
 each-record-requires : tie.Need-each-record-requires
 each-record-requires c κs = search needs
@@ -43,6 +52,7 @@ with-table-spec =
     (tie.spec
     open-requires
     enum-told
+    table-requires
     fresh-requires
     each-record-requires
     returns

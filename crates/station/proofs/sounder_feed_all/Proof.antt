@@ -5,31 +5,30 @@ use mathlib.Core.Path.{_≡_, refl, sym, ap, _∙_}
 use mathlib.Core.List.{List}
 use lib.ListN.{length}
 use Rattle.lists.specs.Build.{tabulate}
-use Rattle.table.specs.declared.Opening.{Opening}
-use Rattle.table.specs.declared.Opening.the-variants.{Accepted, LengthWrong, FieldWrong, ValueOutside}
-use Rattle.table.specs.Opening.{opening, refusal}
+use Rattle.lists.specs.Tests.{Verdict, passes, fails, numberOf}
+use Rattle.table.specs.declared.Table.{Table}
+use Rattle.table.specs.Opening.{opening}
+use Rattle.table.proofs.OpeningLaws.{table-when-passed, accepted-when-passed}
 use Rattle.calibrator.specs.declared.Calibrator.{Calibrator}
 use Rattle.calibrator.specs.Feeding.{freshOf}
 use Rattle.calibrator.specs.FeedList.{answerAt, buffersAt}
 use Rattle.station.specs.Calls.{answersBy, buffersBy}
-use Rattle.station.proofs.OpenedLaws.{number-is, opening-accepted, table-is, accepted-table}
+use Rattle.station.proofs.OpenedLaws.{number-is, passed-at-zero}
 use borrow.Author.Needs.{needs}
 use Rattle.station.proofs.sounder_feed_all.Statement.{statement}
 use Rattle.station.proofs.sounder_feed_all.Tie as tie
 
--- ---- what the list leaves, by the answer
+-- ---- what the list leaves, by the verdict on the table
 module _ (table records recordLengths buffers bufferLengths answers : List ℕ) where
-  answers-when : {o : Opening} → opening table ≡ o → {out : List ℕ} → out ≡ answersBy o table records recordLengths buffers bufferLengths answers → out ≡ answersBy (opening table) table records recordLengths buffers bufferLengths answers
-  answers-when e h = h ∙ sym (ap (λ (o : Opening). answersBy o table records recordLengths buffers bufferLengths answers) e)
+  answers-when : {verdict : Verdict} → opening table ≡ verdict → {out : List ℕ} → out ≡ answersBy verdict table records recordLengths buffers bufferLengths answers → out ≡ answersBy (opening table) table records recordLengths buffers bufferLengths answers
+  answers-when e h = h ∙ sym (ap (λ (verdict : Verdict). answersBy verdict table records recordLengths buffers bufferLengths answers) e)
 
-  buffers-when : {o : Opening} → opening table ≡ o → {out : List ℕ} → out ≡ buffersBy o table records recordLengths buffers bufferLengths (length answers) → out ≡ buffersBy (opening table) table records recordLengths buffers bufferLengths (length answers)
-  buffers-when e h = h ∙ sym (ap (λ (o : Opening). buffersBy o table records recordLengths buffers bufferLengths (length answers)) e)
+  buffers-when : {verdict : Verdict} → opening table ≡ verdict → {out : List ℕ} → out ≡ buffersBy verdict table records recordLengths buffers bufferLengths (length answers) → out ≡ buffersBy (opening table) table records recordLengths buffers bufferLengths (length answers)
+  buffers-when e h = h ∙ sym (ap (λ (verdict : Verdict). buffersBy verdict table records recordLengths buffers bufferLengths (length answers)) e)
 
-  refused-writes-nothing : (o : Opening) → (refusal o ≡ 0 → ⊥) → (answers ≡ answersBy o table records recordLengths buffers bufferLengths answers) × (buffers ≡ buffersBy o table records recordLengths buffers bufferLengths (length answers))
-  refused-writes-nothing Accepted h = absurd (h refl)
-  refused-writes-nothing LengthWrong h = (refl, refl)
-  refused-writes-nothing FieldWrong h = (refl, refl)
-  refused-writes-nothing ValueOutside h = (refl, refl)
+  refused-writes-nothing : (verdict : Verdict) → (numberOf verdict ≡ 0 → ⊥) → (answers ≡ answersBy verdict table records recordLengths buffers bufferLengths answers) × (buffers ≡ buffersBy verdict table records recordLengths buffers bufferLengths (length answers))
+  refused-writes-nothing passes h = absurd (h refl)
+  refused-writes-nothing (fails n) h = (refl, refl)
 
 open-requires : tie.Need-open-requires
 open-requires c κs = search needs
@@ -39,13 +38,20 @@ refusal-number-requires c κs = search needs
 
 returns : tie.Need-returns
 returns c =
-    let number = number-is _ (c .before .before .«open» .ensures) (c .before .refusal-number .ensures) in
+    let opened = c .before .before .«open» in
+    let number = number-is _ (opened .result .answer) (opened .ensures .0) (c .before .refusal-number .ensures) in
     let a = c .before .before .before .before .before .before .before .before .before .args in
     let nothing = refused-writes-nothing (a .table .now) (a .records .now) (a .record-lengths .now) (a .buffers .now) (a .buffer-lengths .now) (a .answers .now) (opening (a .table .now)) (λ zero. c .if1 .taken (number ∙ zero)) in
     (number, nothing .0, nothing .1)
 
+table-requires : tie.Need-table-requires
+table-requires c κs = search needs
+
 fresh-requires : tie.Need-fresh-requires
-fresh-requires c κs = accepted-table _ (c .before .before .before .«open» .ensures) (c .before .before .refusal-number .ensures) (c .before .if1 .left)
+fresh-requires c κs =
+    let opened = c .before .before .before .«open» in
+    accepted-when-passed _ (ap (λ (t : Table). t .bytes) (c .table .ensures) ∙ opened .ensures .1)
+    (passed-at-zero _ (opened .result .answer) (opened .ensures .0) (c .before .before .refusal-number .ensures) (c .before .if1 .left))
 
 feed-list-requires : tie.Need-feed-list-requires
 feed-list-requires c κs = search needs
@@ -59,15 +65,17 @@ same-length-2 c = search needs
 returns-2 : tie.Need-returns-2
 returns-2 c =
     let a = c .before .before .before .before .before .before .before .before .before .before .before .before .before .before .before .before .before .before .args in
-    let opened = c .before .before .before .before .before .before .before .before .before .before .before .«open» .ensures in
+    let opened = c .before .before .before .before .before .before .before .before .before .before .before .«open» in
     let number = c .before .before .before .before .before .before .before .before .before .before .refusal-number .ensures in
     let zero = c .before .before .before .before .before .before .before .before .before .if1 .left in
-    let o = opening-accepted _ opened number zero in
-    let first = c .before .before .before .before .before .before .before .fresh .ensures .0 ∙ ap freshOf (table-is _ opened number zero) in
+    let passed = passed-at-zero _ (opened .result .answer) (opened .ensures .0) number zero in
+    let handed = c .before .before .before .before .before .before .before .before .table .ensures in
+    let bytes = table-when-passed _ (opened .ensures .1) passed in
+    let first = c .before .before .before .before .before .before .before .fresh .ensures .0 ∙ ap freshOf (handed ∙ ap (λ (b : List ℕ). record { bytes = b }) bytes) in
     let f = c .before .before .before .before .feed-list .ensures in (
-      sym (ap refusal o),
-      answers-when _ _ _ _ _ _ o (f .0 ∙ ap (λ (x : Calibrator). tabulate (answerAt x (a .records .now) (a .record-lengths .now) (a .buffers .now) (a .buffer-lengths .now)) (length (a .answers .now))) first),
-      buffers-when _ _ _ _ _ (a .answers .now) o (f .1 ∙ ap (λ (x : Calibrator). buffersAt x (a .records .now) (a .record-lengths .now) (a .buffers .now) (a .buffer-lengths .now) (length (a .answers .now))) first),
+      sym (ap numberOf passed),
+      answers-when _ _ _ _ _ _ passed (f .0 ∙ ap (λ (x : Calibrator). tabulate (answerAt x (a .records .now) (a .record-lengths .now) (a .buffers .now) (a .buffer-lengths .now)) (length (a .answers .now))) first),
+      buffers-when _ _ _ _ _ (a .answers .now) passed (f .1 ∙ ap (λ (x : Calibrator). buffersAt x (a .records .now) (a .record-lengths .now) (a .buffers .now) (a .buffer-lengths .now) (length (a .answers .now))) first),
     )
 
 pub sounder-feed-all-spec : {M : Type 1} → statement M
@@ -77,6 +85,7 @@ sounder-feed-all-spec =
     open-requires
     refusal-number-requires
     returns
+    table-requires
     fresh-requires
     feed-list-requires
     same-length

@@ -11,11 +11,10 @@ use mir.Val.{SFits, toZ, ofZ}
 use mir.ValLaws.{toZ-ofZ}
 use Rattle.integers.proofs.Bounds.{bounded-size}
 use Rattle.integers.proofs.Machine.{reads-back}
-use Rattle.thermometer.specs.declared.Reading.{Reading}
 use Rattle.thermometer.specs.Rule.{InRange}
-use Rattle.thermometer.specs.Reading.{refusal}
+use Rattle.thermometer.specs.Reading.{Result, number, resultOf}
 use Rattle.thermometer.proofs.Bounds.{t-bounded, t-fits}
-use Rattle.thermometer.proofs.Answer.{reading-units-in-range}
+use Rattle.thermometer.proofs.ReadingLaws.{reading-units-in-range}
 use Rattle.station.specs.Calls.{unitsOr}
 use borrow.Author.Needs.{needs}
 use Rattle.station.proofs.sounder_thermometer.Statement.{statement}
@@ -35,10 +34,10 @@ module _ {t : ℤ} (range : InRange t) where
   cast-reads-back : toZ w32 (ofZ w32 (toZ w64 (ofZ w64 t))) ≡ t
   cast-reads-back = ap (λ (z : ℤ). toZ w32 (ofZ w32 z)) (reads-back (t-fits range)) ∙ toZ-ofZ w32 t t-fits-32
 
--- ---- what is left by a reading that is known
-module _ {known told : Reading} (e : known ≡ told) (before : ℤ) where
-  left-by : (refusal known ≡ refusal told) × (unitsOr known before ≡ unitsOr told before)
-  left-by = (ap refusal e, ap (λ (x : Reading). unitsOr x before) e)
+-- ---- what is left by a result that is known
+module _ {known told : Result} (e : known ≡ told) (before : ℤ) where
+  left-by : (number known ≡ number told) × (unitsOr known before ≡ unitsOr told before)
+  left-by = (ap number e, ap (λ (x : Result). unitsOr x before) e)
 
 thermometer-requires : tie.Need-thermometer-requires
 thermometer-requires c κs = search needs
@@ -47,7 +46,7 @@ enum-known-answer : tie.Need-enum-known-answer
 enum-known-answer c = search needs
 
 cast-t : tie.Need-cast-t
-cast-t c = cast-fits (reading-units-in-range _ _ _ _ _ _ _ _ (sym (c .before .before .before .thermometer .ensures) ∙ c .before .answer .given .1))
+cast-t c = cast-fits (reading-units-in-range _ _ _ _ _ _ _ _ (sym (c .before .before .before .thermometer .ensures) ∙ ap resultOf (c .before .answer .given .1)))
 
 enum-told : tie.Need-enum-told
 enum-told c = search needs
@@ -60,18 +59,18 @@ enum-told-3 c = search needs
 
 returns : tie.Need-returns
 returns c =
-    let e = sym (c .before .answer .given .1) ∙ c .before .before .before .thermometer .ensures in
+    let e = sym (ap resultOf (c .before .answer .given .1)) ∙ c .before .before .before .thermometer .ensures in
     let left = left-by e (c .before .before .before .before .args .t .now) in
     (left .0, cast-reads-back (reading-units-in-range _ _ _ _ _ _ _ _ (sym e)) ∙ left .1)
 
 returns-2 : tie.Need-returns-2
-returns-2 c = left-by (sym (c .enum-told .given .1) ∙ c .before .before .thermometer .ensures) (c .before .before .before .args .t .now)
+returns-2 c = left-by (sym (ap resultOf (c .enum-told .given .1)) ∙ c .before .before .thermometer .ensures) (c .before .before .before .args .t .now)
 
 returns-3 : tie.Need-returns-3
-returns-3 c = left-by (sym (c .enum-told2 .given .1) ∙ c .before .before .thermometer .ensures) (c .before .before .before .args .t .now)
+returns-3 c = left-by (sym (ap resultOf (c .enum-told2 .given .1)) ∙ c .before .before .thermometer .ensures) (c .before .before .before .args .t .now)
 
 returns-4 : tie.Need-returns-4
-returns-4 c = left-by (sym (c .enum-told3 .given .1) ∙ c .before .before .thermometer .ensures) (c .before .before .before .args .t .now)
+returns-4 c = left-by (sym (ap resultOf (c .enum-told3 .given .1)) ∙ c .before .before .thermometer .ensures) (c .before .before .before .args .t .now)
 
 pub sounder-thermometer-spec : {M : Type 1} → statement M
 sounder-thermometer-spec =

@@ -1,25 +1,26 @@
--- `open` meets its contract: each return is what the tests that led there make of `opened`, and the copy of 741 bytes is the bytes.
+-- `open` meets its contract: each return is what the tests that led there make of `opening`, and the copy of 741 bytes is the bytes.
 use Prim.Native.Nat.{ℕ, _≤_}
 use native.Mathlib.Omega.{arith}
 use native.Mathlib.Nat.{le-refl}
-use mathlib.Core.Path.{_≡_, refl, ap, sym, _∙_}
+use mathlib.Core.Path.{_≡_, refl, ap, _∙_}
 use mathlib.Core.List.{List, _++_, append-nil}
 use lib.ListN.{length, take, drop, drop-of-length-le}
 use lib.Seq.{take-all}
 use denote.Ref.{now}
 use borrow.Author.Needs.{needs}
+use Rattle.lists.specs.Tests.{Verdict}
 use Rattle.fields.specs.Fields.{layoutIsRight, layoutSize}
-use Rattle.table.specs.declared.Opened.{Opened}
-use Rattle.table.specs.declared.Opening.the-variants.{Accepted}
 use Rattle.table.specs.Settings.{tableLayout}
-use Rattle.table.specs.Opening.{ages}
+use Rattle.table.specs.Opening.{ages, verdictOf, opening, tableBy}
 use Rattle.table.proofs.Answers.{test-passed, test-failed}
-use Rattle.table.proofs.OpeningLaws.{lent-layout, opened-length-wrong, opened-field-wrong, opened-value-outside, opened-whole}
+use Rattle.table.proofs.OpeningLaws.{lent-layout, opening-length-wrong, opening-field-wrong, opening-value-outside, opening-passes}
 use Rattle.table.proofs.open.Statement.{statement}
 use Rattle.table.proofs.open.Tie as tie
 
-abbrev accepted : List ℕ → Opened
-accepted bytes = record { answer = Accepted; table = record { bytes = bytes } }
+-- what `open` gives, where the verdict on the bytes is known
+opened-by : (bytes : List ℕ) {verdict answered : Verdict} {table : List ℕ} → opening bytes ≡ verdict → answered ≡ verdict → table ≡ tableBy verdict bytes
+    → (answered ≡ opening bytes) × (table ≡ tableBy (opening bytes) bytes)
+opened-by bytes known answers given = rw known (answers, given)
 
 -- a list that is copied over one as long
 copied-whole : (src dst out : List ℕ) → length src ≡ length dst → out ≡ take (length src) src ++ drop (length src) dst → out ≡ src
@@ -35,7 +36,9 @@ refused-requires : tie.Need-refused-requires
 refused-requires c κs = search needs
 
 returns : tie.Need-returns
-returns c = c .refused .ensures ∙ sym (opened-length-wrong (now (c .before .before .before .args .bytes)) (c .before .if1 .taken))
+returns c =
+    let bytes = now (c .before .before .before .args .bytes) in
+    opened-by bytes (opening-length-wrong bytes (c .before .if1 .taken)) (ap verdictOf (c .refused .ensures .0)) (c .refused .ensures .1)
 
 slice-aggregate-layout-is-right : tie.Need-slice-aggregate-layout-is-right
 slice-aggregate-layout-is-right c = refl
@@ -52,8 +55,12 @@ refused-requires-2 c κs = search needs
 returns-2 : tie.Need-returns-2
 returns-2 c =
     let l = c .before .before in
-    c .refused2 .ensures
-    ∙ sym (opened-field-wrong (now (l .before .before .before .before .before .args .bytes)) (l .before .before .before .if1 .left) (test-failed (layout-answers l) (c .before .if2 .taken)))
+    let bytes = now (l .before .before .before .before .before .args .bytes) in
+    opened-by
+    bytes
+    (opening-field-wrong bytes (l .before .before .before .if1 .left) (test-failed (layout-answers l) (c .before .if2 .taken)))
+    (ap verdictOf (c .refused2 .ensures .0))
+    (c .refused2 .ensures .1)
 
 values-inside-requires : tie.Need-values-inside-requires
 values-inside-requires c κs = search needs
@@ -66,13 +73,16 @@ returns-3 c =
     let v = c .before .before in
     let second = v .before in
     let l = second .before in
-    c .refused3 .ensures
-    ∙ sym
-    (opened-value-outside
-    (now (l .before .before .before .before .before .args .bytes))
+    let bytes = now (l .before .before .before .before .before .args .bytes) in
+    opened-by
+    bytes
+    (opening-value-outside
+    bytes
     (l .before .before .before .if1 .left)
     (test-passed (layout-answers l) (second .if2 .left))
     (test-failed (v .values-inside .ensures) (c .before .if3 .taken)))
+    (ap verdictOf (c .refused3 .ensures .0))
+    (c .refused3 .ensures .1)
 
 slice-aggregate-copy : tie.Need-slice-aggregate-copy
 slice-aggregate-copy c = refl
@@ -88,13 +98,15 @@ returns-4 c =
     let l = second .before in
     let long = l .before .before .before .if1 .left in
     let bytes = now (l .before .before .before .before .before .args .bytes) in
-    ap accepted (copied-whole bytes _ _ long (c .before .copy2 .ensures .1))
-    ∙ sym
-    (opened-whole
+    opened-by
+    bytes
+    (opening-passes
     bytes
     long
     (test-passed (layout-answers l) (second .if2 .left))
     (test-passed (v .values-inside .ensures) (third .if3 .left)))
+    refl
+    (copied-whole bytes _ _ long (c .before .copy2 .ensures .1))
 
 pub open-spec : {M : Type 1} → statement M
 open-spec =

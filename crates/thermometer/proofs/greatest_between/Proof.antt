@@ -10,7 +10,7 @@ use mir.Val.{toZ, ofZ}
 use Rattle.integers.proofs.Order.{leZ-true, leZ-false}
 use Rattle.integers.proofs.Machine.{small-fits, reads-back, result-reads-back, natural-reads-back}
 use Rattle.thermometer.specs.Rule.{F, unitsAt}
-use Rattle.thermometer.specs.Search.{AllReachedBefore}
+use Rattle.thermometer.specs.Steps.{AllReachedBefore}
 use Rattle.thermometer.proofs.Bounds.{t-fits}
 use Rattle.thermometer.proofs.Places.{place-in-range}
 use Rattle.thermometer.proofs.Answer.{reached-before, answer-is}

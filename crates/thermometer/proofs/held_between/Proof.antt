@@ -3,7 +3,7 @@ use mathlib.Core.Path.{_≡_}
 use mathlib.Core.Bool.{true, false}
 use lib.Signed.{ltZ}
 use Rattle.integers.proofs.Machine.{reads-back}
-use Rattle.thermometer.specs.Search.{heldBetween}
+use Rattle.thermometer.specs.Steps.{heldBetween}
 use Rattle.thermometer.proofs.held_between.Statement.{statement}
 use Rattle.thermometer.proofs.held_between.Tie as tie
 

@@ -13,7 +13,7 @@ use Rattle.integers.proofs.Order.{ltZ-false}
 use Rattle.integers.proofs.Bounds.{bounded-sum, number-bounded}
 use Rattle.integers.proofs.Machine.{reads-back, result-reads-back}
 use Rattle.thermometer.specs.Rule.{InRange}
-use Rattle.thermometer.specs.Search.{onLine, onChord, nearbyUnits}
+use Rattle.thermometer.specs.Steps.{onLine, onChord, nearbyUnits}
 use Rattle.thermometer.proofs.Bounds.{fits, t-bounded}
 use Rattle.thermometer.proofs.Places.{placeOf, place-of, place-at-most, place-counted}
 use Rattle.thermometer.proofs.Search.{small-measured, line-in-range, chord-end-in-range, chord-in-range}

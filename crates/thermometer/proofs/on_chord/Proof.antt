@@ -8,7 +8,7 @@ use borrow.Author.Needs.{needs}
 use Rattle.integers.specs.Rounding.{floor}
 use Rattle.integers.proofs.Machine.{reads-back, result-reads-back}
 use Rattle.thermometer.specs.Rule.{F}
-use Rattle.thermometer.specs.Search.{onChord}
+use Rattle.thermometer.specs.Steps.{onChord}
 use Rattle.thermometer.proofs.Bounds.{t-fits}
 use Rattle.thermometer.proofs.Search.{missing-fits, chord-numerator-fits, chord-rise-fits, chord-rises, on-chord-fits}
 use Rattle.thermometer.proofs.on_chord.Statement.{statement}

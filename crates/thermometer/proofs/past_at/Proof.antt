@@ -12,7 +12,7 @@ use borrow.Author.Needs.{needs}
 use borrow.Author.Tests.{lt-ltb, le-ltb}
 use Rattle.integers.proofs.Machine.{reads-back, result-reads-back}
 use Rattle.thermometer.specs.Rule.{F, unitsAt}
-use Rattle.thermometer.specs.Search.{pastAt}
+use Rattle.thermometer.specs.Steps.{pastAt}
 use Rattle.thermometer.proofs.past_at.Statement.{statement}
 use Rattle.thermometer.proofs.past_at.Tie as tie
 

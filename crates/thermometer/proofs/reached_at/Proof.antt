@@ -8,7 +8,7 @@ use mir.Val.{toZ, ofZ}
 use borrow.Author.Needs.{needs}
 use Rattle.integers.proofs.Machine.{reads-back, result-reads-back}
 use Rattle.thermometer.specs.Rule.{F, unitsAt}
-use Rattle.thermometer.specs.Search.{reachedAt}
+use Rattle.thermometer.specs.Steps.{reachedAt}
 use Rattle.thermometer.proofs.reached_at.Statement.{statement}
 use Rattle.thermometer.proofs.reached_at.Tie as tie
 

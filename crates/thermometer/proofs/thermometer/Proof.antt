@@ -1,21 +1,21 @@
--- `thermometer::thermometer` meets its contract. Its tests are those of `reading`, in the same order: each return rewrites `reading` with
--- what the tests that led there showed. Assumes nothing.
+-- `thermometer::thermometer` meets its contract. Its tests are those of `reading`, in the same order: each return is what the tests that
+-- led there make of `reading`, and the number of its case is that test's. Assumes nothing.
 use mathlib.Core.Path.{_≡_, sym, ap, _∙_}
 use mathlib.Core.Bool.{true, false, _&&_}
 use Prim.Native.Nat.{_≤_}
 use native.Mathlib.Omega.{arith}
-use lib.Dec.{leb, ltb}
-use lib.Signed.{leZ-yes, ltZ}
+use lib.Signed.{_≤ℤ_, _<ℤ_, leZ-yes}
 use mir.Syntax.{w64}
 use mir.Val.{toZ, ofZ}
 use borrow.Author.Needs.{needs}
-use borrow.Author.Tests.{le-leb, lt-leb, lt-ltb, le-ltb, not-true, not-false}
-use Rattle.integers.proofs.Order.{ltZ-false}
+use borrow.Author.Tests.{not-true, not-false}
+use Rattle.integers.proofs.Order.{ltZ-true, ltZ-false}
 use Rattle.integers.proofs.Machine.{result-reads-back}
-use Rattle.thermometer.specs.declared.Reading.the-variants.{Units}
 use Rattle.thermometer.specs.Rule.{M, F, lowest, highest}
-use Rattle.thermometer.specs.Reading.{Admissible, resistanceInside, coefficientsInside, reading}
+use Rattle.thermometer.specs.Ranges.{Admissible}
+use Rattle.thermometer.specs.Reading.{units, resistanceInside, coefficientsInside}
 use Rattle.thermometer.proofs.Ranges.{resistance-range, coefficients-admissible}
+use Rattle.thermometer.proofs.ReadingLaws.{reading-coefficient-outside, reading-pam-not-above, reading-count-below, reading-ratio-below, reading-ratio-above, reading-units}
 use Rattle.thermometer.proofs.thermometer.Statement.{statement}
 use Rattle.thermometer.proofs.thermometer.Tie as tie
 
@@ -57,13 +57,6 @@ r0-and-coefficients c = let a = entry2 (c .before) .args in coefficients-admissi
 admissible4 : (c : tie.Else4) → let a = entry4 c .args in Admissible (a .alpha) (a .delta) (a .beta)
 admissible4 c = r0-and-coefficients (c .before .before) .2
 
--- ---- the tests of the counts
-pam-above : (c : tie.Else3) → let a = entry2 (c .before .before) .args in leb (a .pam) (a .offset) ≡ false
-pam-above c = let a = entry2 (c .before .before) .args in lt-leb (a .pam) (a .offset) (omega arith)
-
-count-not-below : (c : tie.Else4) → let a = entry4 c .args in ltb (a .count) (a .offset) ≡ false
-count-not-below c = let a = entry4 c .args in le-ltb (a .count) (a .offset) (omega arith)
-
 -- ---- the tests of M
 reads-M : (c : tie.After-measured-ratio) → let a = entry4 (c .before) .args in toZ w64 (ofZ w64 (c .measured-ratio .result)) ≡ M (a .rpam) (a .r0) (a .pam) (a .offset) (a .count)
 reads-M c = result-reads-back (c .measured-ratio .result) (c .measured-ratio .ok) ∙ c .measured-ratio .ensures
@@ -74,42 +67,36 @@ reads-lowest c = result-reads-back (c .ratio .result) (c .ratio .ok) ∙ c .rati
 reads-highest : (c : tie.After-ratio2) → let a = entry6 c .args in toZ w64 (ofZ w64 (c .ratio2 .result)) ≡ F (a .alpha) (a .delta) (a .beta) highest
 reads-highest c = result-reads-back (c .ratio2 .result) (c .ratio2 .ok) ∙ c .ratio2 .ensures
 
-M-below : (c : tie.Then5) → let a = entry5 (c .before) .args in ltZ (M (a .rpam) (a .r0) (a .pam) (a .offset) (a .count)) (F (a .alpha) (a .delta) (a .beta) lowest) ≡ true
-M-below c = rw (reads-M (c .before .before), reads-lowest (c .before)) at (c .if5 .taken)
+M-below : (c : tie.Then5) → let a = entry5 (c .before) .args in M (a .rpam) (a .r0) (a .pam) (a .offset) (a .count) <ℤ F (a .alpha) (a .delta) (a .beta) lowest
+M-below c = ltZ-true (rw (reads-M (c .before .before), reads-lowest (c .before)) at (c .if5 .taken))
 
-M-not-below : (c : tie.Else5) → let a = entry5 (c .before) .args in ltZ (M (a .rpam) (a .r0) (a .pam) (a .offset) (a .count)) (F (a .alpha) (a .delta) (a .beta) lowest) ≡ false
-M-not-below c = rw (reads-M (c .before .before), reads-lowest (c .before)) at (c .if5 .left)
+M-not-below : (c : tie.Else5) → let a = entry5 (c .before) .args in F (a .alpha) (a .delta) (a .beta) lowest ≤ℤ M (a .rpam) (a .r0) (a .pam) (a .offset) (a .count)
+M-not-below c = ltZ-false (rw (reads-M (c .before .before), reads-lowest (c .before)) at (c .if5 .left))
 
-M-above : (c : tie.Then6) → let a = entry6 (c .before) .args in ltZ (F (a .alpha) (a .delta) (a .beta) highest) (M (a .rpam) (a .r0) (a .pam) (a .offset) (a .count)) ≡ true
-M-above c = rw (reads-M (c .before .before .before .before), reads-highest (c .before)) at (c .if6 .taken)
+M-above : (c : tie.Then6) → let a = entry6 (c .before) .args in F (a .alpha) (a .delta) (a .beta) highest <ℤ M (a .rpam) (a .r0) (a .pam) (a .offset) (a .count)
+M-above c = ltZ-true (rw (reads-M (c .before .before .before .before), reads-highest (c .before)) at (c .if6 .taken))
 
-M-not-above : (c : tie.Else6) → let a = entry6 (c .before) .args in ltZ (F (a .alpha) (a .delta) (a .beta) highest) (M (a .rpam) (a .r0) (a .pam) (a .offset) (a .count)) ≡ false
-M-not-above c = rw (reads-M (c .before .before .before .before), reads-highest (c .before)) at (c .if6 .left)
+M-not-above : (c : tie.Else6) → let a = entry6 (c .before) .args in M (a .rpam) (a .r0) (a .pam) (a .offset) (a .count) ≤ℤ F (a .alpha) (a .delta) (a .beta) highest
+M-not-above c = ltZ-false (rw (reads-M (c .before .before .before .before), reads-highest (c .before)) at (c .if6 .left))
 
 -- ---- the needs
 resistance-inside-requires : tie.Need-resistance-inside-requires
 resistance-inside-requires c κs = search needs
 
 returns : tie.Need-returns
-unfolding reading
-returns c = rw (rpam-outside c)
+returns c = sym (reading-coefficient-outside _ _ _ _ _ _ _ _ (rw (rpam-outside c)))
 
 coefficients-inside-requires : tie.Need-coefficients-inside-requires
 coefficients-inside-requires c κs = search needs
 
 returns-2 : tie.Need-returns-2
-unfolding reading
-returns-2 c = rw (rpam-inside (c .before .before), coefficients-outside c)
+returns-2 c = sym (reading-coefficient-outside _ _ _ _ _ _ _ _ (rw (rpam-inside (c .before .before)) (coefficients-outside c)))
 
 returns-3 : tie.Need-returns-3
-unfolding reading
-returns-3 c = let a = entry2 (c .before .before) .args in rw (all-inside (c .before), le-leb (a .pam) (a .offset) (omega arith))
+returns-3 c = sym (reading-pam-not-above _ _ _ _ _ _ _ _ (all-inside (c .before)) (omega arith))
 
 returns-4 : tie.Need-returns-4
-unfolding reading
-returns-4 c =
-    let a = entry2 (c .before .before .before) .args in
-    rw (all-inside (c .before .before), pam-above (c .before), lt-ltb (a .count) (a .offset) (omega arith))
+returns-4 c = sym (reading-count-below _ _ _ _ _ _ _ _ (all-inside (c .before .before)) (omega arith) (omega arith))
 
 measured-ratio-requires : tie.Need-measured-ratio-requires
 measured-ratio-requires c κs =
@@ -121,33 +108,30 @@ ratio-requires : tie.Need-ratio-requires
 ratio-requires c κs = (admissible4 (c .before), record { low = leZ-yes tt; high = leZ-yes tt })
 
 returns-5 : tie.Need-returns-5
-unfolding reading
 returns-5 c =
     let d = c .before .before .before in
-    rw (all-inside (d .before .before), pam-above (d .before), count-not-below d, M-below c)
+    sym (reading-ratio-below _ _ _ _ _ _ _ _ (all-inside (d .before .before)) (omega arith) (omega arith) (M-below c))
 
 ratio-requires-2 : tie.Need-ratio-requires-2
 ratio-requires-2 c κs = (admissible4 (c .before .before .before), record { low = leZ-yes tt; high = leZ-yes tt })
 
 returns-6 : tie.Need-returns-6
-unfolding reading
 returns-6 c =
     let e = c .before .before in
     let d = e .before .before .before in
-    rw (all-inside (d .before .before), pam-above (d .before), count-not-below d, M-not-below e, M-above c)
+    sym (reading-ratio-above _ _ _ _ _ _ _ _ (all-inside (d .before .before)) (omega arith) (omega arith) (M-not-below e) (M-above c))
 
 greatest-units-requires : tie.Need-greatest-units-requires
 greatest-units-requires c κs =
     let e = c .before .before in
-    (admissible4 (e .before .before .before), rw (reads-M (e .before .before)) (ltZ-false (M-not-below e)))
+    (admissible4 (e .before .before .before), rw (reads-M (e .before .before)) (M-not-below e))
 
 returns-7 : tie.Need-returns-7
-unfolding reading
 returns-7 c =
     let e = c .before .before .before in
     let d = e .before .before .before in
-    rw (all-inside (d .before .before), pam-above (d .before), count-not-below d, M-not-below e, M-not-above (c .before))
-    (ap Units (result-reads-back (c .greatest-units .result) (c .greatest-units .ok) ∙ rw (reads-M (e .before .before)) at (c .greatest-units .ensures)))
+    ap units (result-reads-back (c .greatest-units .result) (c .greatest-units .ok) ∙ rw (reads-M (e .before .before)) at (c .greatest-units .ensures))
+    ∙ sym (reading-units _ _ _ _ _ _ _ _ (all-inside (d .before .before)) (omega arith) (omega arith) (M-not-below e) (M-not-above (c .before)))
 
 pub thermometer-spec : {M : Type 1} → statement M
 thermometer-spec =

@@ -1,5 +1,6 @@
--- Where the search for the answer starts: around a guess. The answer does not depend on it: the guess gives an end of the search only
--- where F confirms it, and else the end of the whole range stays.
+-- What the private functions give on the way to the answer: where the search starts, around a guess. The answer does not depend on it:
+-- the guess gives an end of the search only where F confirms it, and else the end of the whole range stays. A reader of the promises can
+-- leave this out.
 use Prim.Native.Nat.{ℕ, _+_, _≤_, _<_}
 use mathlib.Core.Bool.{cond}
 use lib.Dec.{ltb}

@@ -1,0 +1,43 @@
+-- The ranges of an accepted table as orders, which later ranges rest on. A reader of the promises can leave this out.
+use Prim.Native.Nat.{ℕ, _≤_, _<_}
+use lib.IntN.{pos}
+use lib.Signed.{_≤ℤ_}
+use Rattle.integers.specs.Bounds.{Bounded}
+use Rattle.lists.specs.Sum.{sum}
+use Rattle.thermometer.specs.Ranges.{Admissible}
+use Rattle.table.specs.declared.Target.{Target}
+use Rattle.table.specs.declared.Thermometer.{Thermometer}
+use Rattle.table.specs.Settings.{Channel, Settings, thermometers, channels}
+use Rattle.table.specs.Ranges.{weightOf}
+
+abbrev pub Between : ℕ → ℕ → ℕ → Type 0
+Between low high x = (low ≤ x) × (x ≤ high)
+
+pub record ThermometerRange (t : Thermometer) : Type 0 where
+  pub r0 : Between 1000 4000000 (t .r0)
+  pub coefficients : Admissible (t .alpha) (t .delta) (t .beta)
+
+pub record ChannelRange (c : Channel) : Type 0 where
+  pub warm : c .warm .low ≤ c .warm .upp
+  pub cold : c .cold .low ≤ c .cold .upp
+  pub b : Bounded (c .b) (pos 4096)
+  pub rj : c .rj ≤ 16384
+  pub sl : c .sl ≤ 16384
+  pub tnl : Bounded (c .tnl) (pos 8192)
+
+pub record SettingsRange (s : Settings) : Type 0 where
+  pub percentThermometers : Between 1 100 (s .percentThermometers)
+  pub percentWarm : Between 1 100 (s .percentWarm)
+  pub percentCold : Between 1 100 (s .percentCold)
+  pub leastKav : Between 1 8 (s .leastKav)
+  pub leastWg : Between 1 7 (s .leastWg)
+  pub rPam : Between 1000 4000000 (s .rPam)
+  pub tLow : Bounded (s .tLow) (pos 245760)
+  pub tUpp : Bounded (s .tUpp) (pos 245760)
+  pub tOrder : s .tLow ≤ℤ s .tUpp
+  pub dT : s .dT ≤ 491520
+  pub thermometer : (i : ℕ) → i < thermometers → ThermometerRange (s .thermometer i)
+  pub channel : (c : ℕ) → c < channels → ChannelRange (s .channel c)
+  pub sumW : Between 1 255 (sum (s .w) (s .ages))
+  pub sumV : Between 1 255 (sum (s .v) (s .ages))
+  pub sumP : (target : Target) → Between 1 255 (weightOf s target)
