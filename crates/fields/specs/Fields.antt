@@ -12,6 +12,9 @@ pub record Field : Type 0 where
   pub tag : ℕ
   pub size : ℕ
 
+abbrev pub field : ℕ → ℕ → Field
+field tag size = record { tag = tag; size = size }
+
 -- the bytes of a tag and a length, which stand before the value
 abbrev pub headSize : ℕ
 headSize = 3

@@ -3,7 +3,7 @@ use Prim.Native.Nat.{ℕ, _+_, _/_, _%_}
 use mathlib.Core.List.{List, [], _∷_, _++_}
 use lib.ListN.{getD}
 use lib.Ieee.{binary32, toBits}
-use Rattle.fields.specs.Fields.{Field}
+use Rattle.fields.specs.Fields.{Field, field}
 use Rattle.lists.specs.Build.{tabulate, cells}
 use Rattle.lists.specs.Sum.{sum}
 use Rattle.scene.specs.Scene.{bits}
@@ -13,12 +13,7 @@ use Rattle.product.specs.Scenes.{earthPart, sceneAt, noChannel}
 use Rattle.product.specs.Summary.{summaryOf}
 
 abbrev pub productLayout : List Field
-productLayout =
-    record { tag = 0x20; size = 4 }
-    ∷ record { tag = 0x21; size = 22 }
-    ∷ record { tag = 0x22; size = 8448 }
-    ∷ record { tag = 0x23; size = 220 }
-    ∷ []
+productLayout = field 0x20 4 ∷ field 0x21 22 ∷ field 0x22 8448 ∷ field 0x23 220 ∷ []
 
 -- big-endian numbers
 abbrev pub u16Bytes : ℕ → List ℕ

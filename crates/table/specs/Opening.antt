@@ -26,11 +26,8 @@ verdictOf ValueOutside = fails 3
 
 unfoldable pub opening : List ℕ → Verdict
 opening bytes =
-    firstThatApplies
-    ((1 when not (eqb (length bytes) (layoutSize (tableLayout ages))))
-    ∷ (2 when not (layoutIsRight bytes 0 (tableLayout ages)))
-    ∷ (3 when not (valuesInside (settingsOf ages bytes)))
-    ∷ [])
+    firstThatApplies ((1 when not (eqb (length bytes) (layoutSize (tableLayout ages))))
+    ∷ (2 when not (layoutIsRight bytes 0 (tableLayout ages))) ∷ (3 when not (valuesInside (settingsOf ages bytes))) ∷ [])
 
 -- opening meets no refusal
 pub record AcceptedTable (bytes : List ℕ) : Type 0 where

@@ -19,20 +19,14 @@ sizeTo m z = leZ (negℤ (pos m)) z && leZ z (pos m)
 -- percentages 1..100, least good thermometers 1..8 and 1..7
 unfoldable pub leastsInside : Settings → Bool
 leastsInside s =
-    fromTo 1 100 (s .percentThermometers)
-    && (fromTo 1 100 (s .percentWarm)
-    && (fromTo 1 100 (s .percentCold)
-    && (fromTo 1 8 (s .leastKav)
-    && fromTo 1 7 (s .leastWg))))
+    fromTo 1 100 (s .percentThermometers) && (fromTo 1 100 (s .percentWarm) && (fromTo 1 100 (s .percentCold)
+    && (fromTo 1 8 (s .leastKav) && fromTo 1 7 (s .leastWg))))
 
 -- R_PAM, T_low and T_upp -245,760..245,760 with low not above upp, dT 0..491,520
 unfoldable pub thermometerLimitsInside : Settings → Bool
 thermometerLimitsInside s =
     resistanceInside (s .rPam)
-    && (sizeTo 245760 (s .tLow)
-    && (sizeTo 245760 (s .tUpp)
-    && (leZ (s .tLow) (s .tUpp)
-    && leb (s .dT) 491520)))
+    && (sizeTo 245760 (s .tLow) && (sizeTo 245760 (s .tUpp) && (leZ (s .tLow) (s .tUpp) && leb (s .dT) 491520)))
 
 abbrev pub thermometerInside : Thermometer → Bool
 thermometerInside t = coefficientsInside (t .r0) (t .alpha) (t .delta) (t .beta)
@@ -40,12 +34,8 @@ thermometerInside t = coefficientsInside (t .r0) (t .alpha) (t .delta) (t .beta)
 -- limits with low not above upp; b -4,096..4,096; rj and sl 0..16,384; TNL -8,192..8,192
 unfoldable pub channelInside : Channel → Bool
 channelInside c =
-    leb (c .warm .low) (c .warm .upp)
-    && (leb (c .cold .low) (c .cold .upp)
-    && (sizeTo 4096 (c .b)
-    && (leb (c .rj) 16384
-    && (leb (c .sl) 16384
-    && sizeTo 8192 (c .tnl)))))
+    leb (c .warm .low) (c .warm .upp) && (leb (c .cold .low) (c .cold .upp)
+    && (sizeTo 4096 (c .b) && (leb (c .rj) 16384 && (leb (c .sl) 16384 && sizeTo 8192 (c .tnl)))))
 
 -- thermometers 1..8 are KAV and 9..15 are WG: the first of a target, counted from 0, and how many it has
 abbrev pub firstOf : Target → ℕ
@@ -67,15 +57,10 @@ weightOf s target = sum (λ i. s .thermometer (firstOf target + i) .p) (sizeOf t
 -- the w sum to 1..255, so do the v, so do the p of each target
 unfoldable pub sumsInside : Settings → Bool
 sumsInside s =
-    fromTo 1 255 (sum (s .w) (s .ages))
-    && (fromTo 1 255 (sum (s .v) (s .ages))
-    && (fromTo 1 255 (weightOf s Kav)
-    && fromTo 1 255 (weightOf s Wg)))
+    fromTo 1 255 (sum (s .w) (s .ages)) && (fromTo 1 255 (sum (s .v) (s .ages))
+    && (fromTo 1 255 (weightOf s Kav) && fromTo 1 255 (weightOf s Wg)))
 
 unfoldable pub valuesInside : Settings → Bool
 valuesInside s =
-    leastsInside s
-    && (thermometerLimitsInside s
-    && (every (λ i. thermometerInside (s .thermometer i)) thermometers
-    && (every (λ c. channelInside (s .channel c)) channels
-    && sumsInside s)))
+    leastsInside s && (thermometerLimitsInside s
+    && (every (λ i. thermometerInside (s .thermometer i)) thermometers && (every (λ c. channelInside (s .channel c)) channels && sumsInside s)))

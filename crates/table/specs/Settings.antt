@@ -5,7 +5,7 @@ use mathlib.Core.List.{List, [], _∷_}
 use lib.IntN.{ℤ}
 use lib.ListN.{getD}
 use Rattle.fields.specs.Numbers.{u16At, u32At, i16At, i32At}
-use Rattle.fields.specs.Fields.{Field, valueStart}
+use Rattle.fields.specs.Fields.{Field, valueStart, field}
 use Rattle.table.specs.declared.Side.{Side}
 use Rattle.table.specs.declared.Side.the-variants.{Warm, Cold}
 use Rattle.table.specs.declared.Target.{Target}
@@ -16,11 +16,7 @@ use Rattle.table.specs.declared.Corrections.{Corrections}
 
 -- the fields 0x10, 0x11 and 0x12
 abbrev pub tableLayout : ℕ → List Field
-tableLayout ages =
-    record { tag = 0x10; size = 2 * ages + 21 }
-    ∷ record { tag = 0x11; size = 255 }
-    ∷ record { tag = 0x12; size = 440 }
-    ∷ []
+tableLayout ages = field 0x10 (2 * ages + 21) ∷ field 0x11 255 ∷ field 0x12 440 ∷ []
 
 abbrev pub thermometers : ℕ
 thermometers = 15
@@ -58,30 +54,15 @@ pub record Settings : Type 0 where
 
 -- ---- where each value stands
 abbrev pub limitsAt : List ℕ → ℕ → Limits
-limitsAt table at = record {
-  low = u16At table at;
-  upp = u16At table (at + 2);
-  difference = u16At table (at + 4);
-}
+limitsAt table at = record { low = u16At table at; upp = u16At table (at + 2); difference = u16At table (at + 4) }
 
 abbrev pub thermometerAt : List ℕ → ℕ → Thermometer
-thermometerAt table at = record {
-  p = getD table at 0;
-  r0 = u32At table (at + 1);
-  alpha = u32At table (at + 5);
-  delta = u32At table (at + 9);
-  beta = u32At table (at + 13);
-}
+thermometerAt table at =
+    record { p = getD table at 0; r0 = u32At table (at + 1); alpha = u32At table (at + 5); delta = u32At table (at + 9); beta = u32At table (at + 13) }
 
 abbrev pub channelAt : List ℕ → ℕ → Channel
-channelAt table at = record {
-  warm = limitsAt table at;
-  cold = limitsAt table (at + 6);
-  b = i16At table (at + 12);
-  rj = u16At table (at + 14);
-  sl = u16At table (at + 16);
-  tnl = i16At table (at + 18);
-}
+channelAt table at =
+    record { warm = limitsAt table at; cold = limitsAt table (at + 6); b = i16At table (at + 12); rj = u16At table (at + 14); sl = u16At table (at + 16); tnl = i16At table (at + 18) }
 
 abbrev pub settingsOf : ℕ → List ℕ → Settings
 settingsOf ages table =
