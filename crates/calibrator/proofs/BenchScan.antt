@@ -3,7 +3,7 @@ use Prim.Native.Nat.{ℕ, _+_, _*_, _<_}
 use native.Mathlib.Nat.{mul-comm}
 use native.Mathlib.Omega.{arith}
 use mathlib.Core.Path.{_≡_, refl, ap, ap₂, _∙_}
-use mathlib.Core.List.{List, [], _∷_, _++_}
+use mathlib.Core.List.{List}
 use mathlib.Core.Bool.{Bool, true, cond}
 use lib.Dec.{eqb}
 use lib.IntN.{pos}
@@ -17,17 +17,18 @@ use Rattle.fields.specs.Numbers.{u16At}
 use Rattle.fields.specs.Fields.{fieldIsRight, layoutIsRight}
 use Rattle.thermometer.specs.Reading.{Result, units, reading}
 use Rattle.thermometer.proofs.Bench.{bench-reading}
+use Rattle.table.specs.declared.Side.the-variants.{Warm, Cold}
 use Rattle.table.specs.declared.Target.{Target}
 use Rattle.table.specs.declared.Target.the-variants.{Kav, Wg}
 use Rattle.table.specs.Settings.{Channel as ChannelRow, leastOf, thermometers, channels}
 use Rattle.table.specs.Ranges.{firstOf, sizeOf, targetOf, leastsInside, thermometerLimitsInside, channelInside, sumsInside, valuesInside}
 use Rattle.table.specs.Opening.{opening, AcceptedTable}
 use Rattle.acceptance.specs.declared.Scan.{Scan}
-use Rattle.acceptance.specs.Record.{instrument}
-use Rattle.acceptance.specs.Accepted.{readingAt, kelvin, inLimits, kelvins, passedLimits, acceptedThermometers, acceptedCounts, acceptedSamples}
-use Rattle.acceptance.specs.Kept.{keptKelvin, keptScan}
+use Rattle.acceptance.specs.Record.{instrument, sideValue, channelPart}
+use Rattle.acceptance.specs.Accepted.{readingAt, kelvin, inLimits, kelvins, passedLimits, acceptedThermometers, acceptedCounts, AcceptedSamples, acceptedSamples}
+use Rattle.acceptance.specs.Kept.{keptScan}
 use Rattle.acceptance.specs.Good.{Sample, differs, good, chosenTo, goodSamples, atLeast}
-use Rattle.acceptance.specs.Counts.{fourCounts, withinLimits, withoutOverlap, acceptedSides}
+use Rattle.acceptance.specs.Counts.{Sides, fourCounts, withinLimits, withoutOverlap, acceptedSides}
 use Rattle.acceptance.proofs.Targets.{last-at-most}
 use Rattle.window.specs.declared.Means.{Means}
 use Rattle.window.specs.Ages.{noScan}
@@ -38,7 +39,7 @@ use Rattle.product.specs.Product.{u16Bytes}
 use Rattle.product.proofs.Bytes.{cell-stands, u16-that-stands}
 use Rattle.calibrator.specs.Moments.{earthCounts, meansAt}
 use Rattle.calibrator.specs.Feeding.{keptBy}
-use Rattle.calibrator.specs.Bench.{benchTable, perChannel, benchScan, benchSettings, benchMoment, limits}
+use Rattle.calibrator.specs.Bench.{benchTable, instrumentBytes, perChannel, benchScan, benchSettings, benchMoment, limits}
 use Rattle.calibrator.proofs.RollLaws.{scanOfAge}
 use Rattle.calibrator.proofs.SampleLaws.{means-at-is}
 
@@ -56,7 +57,54 @@ pub bench-row : (c : ℕ) → c < channels → benchSettings .channel c ≡ benc
 unfolding benchTable tabulate
 bench-row = each-of-same (λ c. benchSettings .channel c) (λ c. benchRow) channels refl
 
--- ---- the scan
+-- ---- a scan with the instrument counts of the bench scan
+
+-- T of 0 °C at each place of a target, or one count at each of the first n places
+abbrev pub samplesAt : ℕ → ℕ → List Sample
+samplesAt n value = tabulate (λ i. record { place = i; value = value }) n
+
+-- every channel with these accepted counts
+abbrev pub samplesWith : Sides → AcceptedSamples
+samplesWith sides = record { kav = samplesAt 8 1118822; wg = samplesAt 7 1118822; counts = replicate 22 sides }
+
+each-reads-zero : (i : ℕ) → i < thermometers → readingAt benchSettings instrumentBytes i ≡ units (pos 0)
+unfolding benchTable instrumentBytes tabulate
+each-reads-zero i below =
+    each-of-same (readingAt benchSettings instrumentBytes) (λ i. reading 2000000 2000000 3850000 1500000 0 20000 0 20000) thermometers refl i below
+    ∙ bench-reading
+
+-- the row of a target, of anything that a reading gives
+row-of-target : {A : Type 0} (f : Result → A) (target : Target)
+    → tabulate (λ i. f (readingAt benchSettings instrumentBytes (firstOf target + i))) (sizeOf target)
+    ≡ tabulate (λ i. f (units (pos 0))) (sizeOf target)
+row-of-target f target = tabulate-same _ _ (sizeOf target) (λ i inside. ap f (each-reads-zero (firstOf target + i) (omega (arith, last-at-most target))))
+
+accepted-of-target : (target : Target) → acceptedThermometers benchSettings instrumentBytes target
+    ≡ atLeast (leastOf benchSettings target)
+    (goodSamples (tabulate (λ i. 1118822) (sizeOf target)) (tabulate (λ i. true) (sizeOf target)) (benchSettings .dT))
+unfolding acceptedThermometers kelvins passedLimits benchTable
+accepted-of-target target =
+    ap₂ (λ (values : List ℕ) (passed : List Bool). atLeast (leastOf benchSettings target) (goodSamples values passed (benchSettings .dT)))
+    (row-of-target kelvin target) (row-of-target (inLimits benchSettings) target)
+
+accepted-thermometers : (target : Target) → acceptedThermometers benchSettings instrumentBytes target ≡ samplesAt (sizeOf target) 1118822
+unfolding benchTable tabulate good differs count chosenTo
+accepted-thermometers Kav = accepted-of-target Kav
+accepted-thermometers Wg = accepted-of-target Wg
+
+pub samples-are : (scan : List ℕ) (sides : Sides) → instrument scan ≡ instrumentBytes
+    → tabulate (λ c. acceptedCounts (benchSettings .channel c) (channelPart (sideValue scan Warm) c) (channelPart (sideValue scan Cold) c)) channels ≡ replicate 22 sides
+    → acceptedSamples benchSettings scan ≡ samplesWith sides
+unfolding acceptedSamples
+samples-are scan sides same counts =
+    ap₂ (λ (value : List ℕ) (all : List Sides). record {
+      kav = acceptedThermometers benchSettings value Kav;
+      wg = acceptedThermometers benchSettings value Wg;
+      counts = all;
+    }) same counts
+    ∙ ap₂ (λ (kav wg : List Sample). record { kav = kav; wg = wg; counts = replicate 22 sides }) (accepted-thermometers Kav) (accepted-thermometers Wg)
+
+-- ---- the bench scan
 
 -- of a side one more than its scan value (decision 23); T of 0 °C
 abbrev pub benchKept : Scan
@@ -70,38 +118,28 @@ means-of-kept : (c : ℕ) → c < channels → meansOf benchSettings (λ k. cond
 unfolding benchTable tabulate meansFrom weightSum valueSum thermometerWeights thermometerSum sum noScan
 means-of-kept = each-of-same _ (λ c. benchMeans (targetOf c)) channels refl
 
+-- ---- an earth field with one count
+
+module _ (earth c i : ℕ) (below : c < channels) (inside : i < 96) where
+  pub earth-of-channel : u16At (earthPart (perChannel 96 earth) c) (2 * i) ≡ earth
+  unfolding perChannel
+  earth-of-channel =
+      let row : List ℕ = cells (λ i. u16Bytes earth) 96 in
+      let long-row : length row ≡ 192 = length-cells (λ i. u16Bytes earth) 2 (λ i. refl) 96 in
+      ap (λ (at : ℕ). u16At (take 192 (drop at (perChannel 96 earth))) (2 * i)) (mul-comm 192 c)
+      ∙ ap (λ (part : List ℕ). u16At part (2 * i)) (cell-of-cells (λ c. row) 192 (λ c. long-row) channels c below)
+      ∙ u16-that-stands row (2 * i) earth (cell-stands (λ i. u16Bytes earth) 2 (λ i. refl) 96 i inside)
+
 module _ (earth : ℕ) where
   -- ---- what it keeps
 
-  each-reads-zero : (i : ℕ) → i < thermometers → readingAt benchSettings (instrument (benchScan earth)) i ≡ units (pos 0)
-  unfolding benchTable benchScan tabulate
-  each-reads-zero i below =
-      each-of-same (readingAt benchSettings (instrument (benchScan earth))) (λ i. reading 2000000 2000000 3850000 1500000 0 20000 0 20000)
-      thermometers refl i below
-      ∙ bench-reading
-
-  -- the row of a target, of anything that a reading gives
-  row-of-target : {A : Type 0} (f : Result → A) (target : Target)
-      → tabulate (λ i. f (readingAt benchSettings (instrument (benchScan earth)) (firstOf target + i))) (sizeOf target)
-      ≡ tabulate (λ i. f (units (pos 0))) (sizeOf target)
-  row-of-target f target = tabulate-same _ _ (sizeOf target) (λ i inside. ap f (each-reads-zero (firstOf target + i) (omega (arith, last-at-most target))))
-
-  accepted-of-target : (target : Target) → acceptedThermometers benchSettings (instrument (benchScan earth)) target
-      ≡ atLeast (leastOf benchSettings target)
-      (goodSamples (tabulate (λ i. 1118822) (sizeOf target)) (tabulate (λ i. true) (sizeOf target)) (benchSettings .dT))
-  unfolding acceptedThermometers kelvins passedLimits benchTable
-  accepted-of-target target =
-      ap₂ (λ (values : List ℕ) (passed : List Bool). atLeast (leastOf benchSettings target) (goodSamples values passed (benchSettings .dT)))
-      (row-of-target kelvin target) (row-of-target (inLimits benchSettings) target)
+  bench-samples : acceptedSamples benchSettings (benchScan earth) ≡ samplesWith (record { warm = samplesAt 4 20000; cold = samplesAt 4 10000 })
+  unfolding benchTable benchScan tabulate acceptedCounts fourCounts withinLimits acceptedSides withoutOverlap good differs count chosenTo
+  bench-samples = samples-are (benchScan earth) _ refl refl
 
   pub bench-kept : keptBy benchSettings (benchScan earth) ≡ benchKept
-  unfolding benchTable benchScan keptScan acceptedSamples tabulate acceptedCounts fourCounts withinLimits acceptedSides withoutOverlap good differs count chosenTo
-  bench-kept =
-      ap₂ (λ (kav wg : List Sample). record {
-        warm = replicate 22 240001;
-        cold = replicate 22 120001;
-        kelvin = tabulate (λ i. keptKelvin kav i) 8 ++ tabulate (λ i. keptKelvin wg i) 7;
-      }) (accepted-of-target Kav) (accepted-of-target Wg)
+  unfolding keptScan tabulate
+  bench-kept = ap keptScan bench-samples
 
   -- ---- the sums of each channel
 
@@ -113,16 +151,9 @@ module _ (earth : ℕ) where
 
   -- ---- the earth counts
 
-  earth-field : earthCounts (benchScan earth) ≡ perChannel 96 earth
+  pub earth-field : earthCounts (benchScan earth) ≡ perChannel 96 earth
   unfolding benchScan
   earth-field = refl
 
   pub earth-count : (c i : ℕ) → c < channels → i < 96 → u16At (earthPart (earthCounts (benchScan earth)) c) (2 * i) ≡ earth
-  unfolding perChannel
-  earth-count c i below inside =
-      let row : List ℕ = cells (λ i. u16Bytes earth) 96 in
-      let long-row : length row ≡ 192 = length-cells (λ i. u16Bytes earth) 2 (λ i. refl) 96 in
-      ap (λ (l : List ℕ). u16At (earthPart l c) (2 * i)) earth-field
-      ∙ ap (λ (at : ℕ). u16At (take 192 (drop at (perChannel 96 earth))) (2 * i)) (mul-comm 192 c)
-      ∙ ap (λ (part : List ℕ). u16At part (2 * i)) (cell-of-cells (λ c. row) 192 (λ c. long-row) channels c below)
-      ∙ u16-that-stands row (2 * i) earth (cell-stands (λ i. u16Bytes earth) 2 (λ i. refl) 96 i inside)
+  earth-count c i below inside = ap (λ (l : List ℕ). u16At (earthPart l c) (2 * i)) earth-field ∙ earth-of-channel earth c i below inside

@@ -12,5 +12,8 @@ pub mod Demand
 pub mod FeedListLaws
 pub mod FeedListRuns
 pub mod BenchScan
+pub mod FirstFeed
 pub mod BenchFeed
 pub mod BenchRows
+pub mod Plain
+pub mod Witnesses

@@ -8,3 +8,4 @@ pub mod Restart
 pub mod FeedList
 pub mod Steps
 pub mod Bench
+pub mod Witnesses

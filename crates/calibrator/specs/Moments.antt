@@ -78,8 +78,7 @@ module _ (s : Settings) (m : Moment) (c i : ℕ) where
   -- T by equations 25 to 29, one by one, from the mean counts and the unrounded Tw
   abbrev pub equationsAt : Fraction
   equationsAt =
-      let sums = meansAt s m c in
-      corrected (meanCount (pos (sums .aw)) (pos (sums .ww))) (meanCount (pos (sums .ac)) (pos (sums .wc))) unroundedTwAt (whole (Tc (s .channel c))) (whole (s .channel c .tnl)) (whole countAt)
+      let sums = meansAt s m c in corrected (meanCount (pos (sums .aw)) (pos (sums .ww))) (meanCount (pos (sums .ac)) (pos (sums .wc))) unroundedTwAt (whole (Tc (s .channel c))) (whole (s .channel c .tnl)) (whole countAt)
 
   -- the three weight sums suffice, the mean warm count is above the mean cold, the scene lies from 0 to 1.25, and the guard passes
   pub record ByTheRules : Type 0 where

@@ -9,17 +9,13 @@ pub data Verdict : Type 0 where
   fails : ℕ → Verdict
 
 -- the number of a refusal, and whether it applies
-pub record Test : Type 0 where
-  pub number : ℕ
-  pub applies : Bool
-
 infix 10 _when_
-abbrev pub _when_ : ℕ → Bool → Test
-number when applies = record { number = number; applies = applies }
+pub data Test : Type 0 where
+  _when_ : ℕ → Bool → Test
 
 abbrev pub firstThatApplies : List Test → Verdict
 firstThatApplies [] = passes
-firstThatApplies (test ∷ more) = cond (test .applies) (fails (test .number)) (firstThatApplies more)
+firstThatApplies ((number when applies) ∷ more) = cond applies (fails number) (firstThatApplies more)
 
 -- the number of a verdict; 0, which is no refusal of document 01, where none applies
 abbrev pub numberOf : Verdict → ℕ

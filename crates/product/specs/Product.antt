@@ -49,10 +49,8 @@ flagBytes channels = tabulate (λ c. getD channels c noChannel .flag) 22
 
 unfoldable pub productOf : ℕ → List Channel → List ℕ → List ℕ
 productOf number channels earth =
-    fieldBytes 0x20 4 (u32Bytes number)
-    ++ (fieldBytes 0x21 22 (flagBytes channels)
-    ++ (fieldBytes 0x22 8448 (sceneBytes channels earth)
-    ++ fieldBytes 0x23 220 (summariesBytes (summaries channels earth))))
+    fieldBytes 0x20 4 (u32Bytes number) ++ (fieldBytes 0x21 22 (flagBytes channels)
+    ++ (fieldBytes 0x22 8448 (sceneBytes channels earth) ++ fieldBytes 0x23 220 (summariesBytes (summaries channels earth))))
 
 -- how many scenes are delivered: the sum of the channels' counts
 unfoldable pub deliveredCount : List Channel → List ℕ → ℕ

@@ -23,11 +23,9 @@ greater x y = cond (lt y x) x y
 
 -- with one temperature more
 unfoldable pub withTemperature : Summary → Float → Summary
-withTemperature s x = record {
-  count = s .count + 1;
-  low = cond (eqb (s .count) 0) x (lesser x (s .low));
-  high = cond (eqb (s .count) 0) x (greater x (s .high));
-}
+withTemperature s x =
+    let first = eqb (s .count) 0 in
+    record { count = s .count + 1; low = cond first x (lesser x (s .low)); high = cond first x (greater x (s .high)) }
 
 -- with one scene more
 unfoldable pub withScene : Summary → Scene → Summary

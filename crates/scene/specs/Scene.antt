@@ -40,6 +40,5 @@ numerator k count = k .slope *ℤ pos count -ℤ k .base
 unfoldable pub sceneOf : Constants → ℕ → Scene
 unfolding kelvin temperature
 sceneOf k count =
-    let n = numerator k count in
-    let t = temperature (k .tc) (k .rise) (k .tnl) (k .d) n in
+    let n = numerator k count in let t = temperature (k .tc) (k .rise) (k .tnl) (k .d) n in
     cond (outside n (k .d)) Outside (cond (guardFails t) Guard (Kelvin (kelvin (natAbs t))))

@@ -45,10 +45,7 @@ tests rPam r0 alpha delta beta pam offset count =
     let m = M rPam r0 pam offset count in
     (8 when not (resistanceInside rPam && coefficientsInside r0 alpha delta beta))
     ∷ (9 when leb pam offset)
-    ∷ (10 when ltb count offset)
-    ∷ (10 when ltZ m (F alpha delta beta lowest))
-    ∷ (10 when ltZ (F alpha delta beta highest) m)
-    ∷ []
+    ∷ (10 when ltb count offset) ∷ (10 when ltZ m (F alpha delta beta lowest)) ∷ (10 when ltZ (F alpha delta beta highest) m) ∷ []
 
 -- the answer where no test applies, and else the number alone
 abbrev pub resultBy : Verdict → ℤ → Result
