@@ -223,33 +223,54 @@ fn samples() {
 }
 
 /// The least that a product costs: each earth count is read, and four bytes are written for it.
-fn bytes_alone() {
-    let list = scans(1);
-    let earth = &list.feeds[0].record[405..];
-    let mut scenes = vec![0; 2 * earth.len()];
+fn move_bytes(earth: &[u8], scenes: &mut [u8]) {
+    for (place, count) in scenes.chunks_exact_mut(4).zip(earth.chunks_exact(2)) {
+        let count = u16::from_be_bytes([count[0], count[1]]);
+        place.copy_from_slice(&u32::from(count).to_be_bytes());
+    }
+}
+
+/// Where the time of a scan goes: the proved code on a list of 100, and its parts alone, in turns.
+fn parts() {
+    const COUNT: usize = 100;
+    let feeds = scans(COUNT);
+    let mut list = LaidOut::of(&feeds);
+    let record = &feeds.feeds[0].record;
+    let earth = &record[405..];
+    let (mut product, mut scenes) = (vec![0; LENGTH], vec![0; 2 * earth.len()]);
     let times = least_times(
-        20_000,
-        1,
-        &mut [&mut || {
-            let places = scenes.chunks_exact_mut(4).zip(earth.chunks_exact(2));
-            for (place, count) in places {
-                let count = u16::from_be_bytes([count[0], count[1]]);
-                place.copy_from_slice(&u32::from(count).to_be_bytes());
-            }
-            black_box(&mut scenes);
-        }],
+        300,
+        COUNT,
+        &mut [
+            &mut || assert_eq!(black_box(proved::feed_all(&mut list)), 0),
+            &mut || {
+                for _ in 0..COUNT {
+                    black_box(proved::kept_value(black_box(&feeds.table), record, 58));
+                }
+            },
+            &mut || {
+                for _ in 0..COUNT {
+                    let k = black_box(&CONSTANTS);
+                    black_box(proved::product(&mut product, 7, k, black_box(earth)));
+                }
+            },
+            &mut || {
+                for _ in 0..COUNT {
+                    move_bytes(black_box(earth), black_box(&mut scenes));
+                }
+            },
+        ],
     );
-    println!(
-        "the bytes of one product alone: {:.2} us",
-        times[0] / 1_000.0
-    );
+    let [scan, samples, writer, bytes] = [0, 1, 2, 3].map(|part: usize| times[part] / 1_000.0);
+    let rest = scan - samples - writer;
+    println!("of one scan, {scan:.2} us: its samples {samples:.2}, its product {writer:.2}, the rest {rest:.2}; moving its bytes alone {bytes:.2}");
 }
 
 fn main() {
     thermometers();
     samples();
     products();
-    bytes_alone();
+    parts();
     feeds(100, 300);
     feeds(1_000, 30);
     feeds(10_000, 5);
