@@ -2,7 +2,7 @@
 -- and the earth counts alone.
 use Prim.Native.Nat.{ℕ, _+_}
 use mathlib.Core.Path.{_≡_, refl, sym, ap, ap₂, fun-ext, _∙_}
-use mathlib.Core.List.{List, [], _∷_, _++_}
+use mathlib.Core.List.{List, _∷_, _++_}
 use mathlib.Core.Bool.{cond}
 use lib.Dec.{eqb}
 use lib.ListN.{take, drop}
@@ -14,13 +14,14 @@ use Rattle.acceptance.specs.declared.Scan.{Scan}
 use Rattle.acceptance.specs.Record.{scanNumber}
 use Rattle.acceptance.specs.Kept.{keptScan}
 use Rattle.window.specs.declared.Channel.{Channel}
-use Rattle.window.specs.Means.{meansOf, stateOf}
+use Rattle.window.specs.Sums.{meansOf}
+use Rattle.window.specs.Means.{stateOf}
 use Rattle.product.specs.Product.{productOf, deliveredCount}
 use Rattle.product.proofs.Bytes.{length-product}
-use Rattle.calibrator.specs.Refusals.{delivered, refused}
-use Rattle.calibrator.specs.Roll.{Feed, Roll, lastNumber, verdictAt, joinedBy, joined}
+use Rattle.calibrator.specs.Refusals.{delivered}
+use Rattle.calibrator.specs.Roll.{Feed, Roll, lastNumber, joinedBy}
 use Rattle.calibrator.specs.Moments.{earthCounts, channelsAt}
-use Rattle.calibrator.specs.Feeding.{Outcome, keptBy}
+use Rattle.calibrator.specs.Feeding.{keptBy}
 use Rattle.calibrator.specs.Promise.{SameScan, SameIfAccepted, SameOutcome}
 use Rattle.calibrator.proofs.RollLaws.{scanOfAge}
 use Rattle.calibrator.proofs.SampleLaws.{means-at-is}

@@ -11,8 +11,8 @@ use Rattle.lists.specs.Sum.{sum}
 use Rattle.fields.specs.Fields.{fieldIsRight, layoutIsRight}
 use Rattle.acceptance.specs.Record.{scanNumber}
 use Rattle.window.specs.Ages.{noScan, windowOf, shifted, windowAfter}
-use Rattle.window.specs.Sums.{weightSum, valueSum, thermometerWeights, thermometerSum}
-use Rattle.window.specs.Means.{meansFrom, flagOf, constantsOf, stateOf}
+use Rattle.window.specs.Sums.{weightSum, valueSum, thermometerWeights, thermometerSum, meansFrom}
+use Rattle.window.specs.Means.{flagOf, constantsOf, stateOf}
 use Rattle.scene.specs.Scene.{sceneOf}
 use Rattle.product.specs.Scenes.{sceneIn, delivered}
 use Rattle.product.specs.Product.{productOf, deliveredCount}

@@ -32,8 +32,7 @@ use Rattle.acceptance.specs.Counts.{Sides, fourCounts, withinLimits, withoutOve
 use Rattle.acceptance.proofs.Targets.{last-at-most}
 use Rattle.window.specs.declared.Means.{Means}
 use Rattle.window.specs.Ages.{noScan}
-use Rattle.window.specs.Sums.{weightSum, valueSum, thermometerWeights, thermometerSum}
-use Rattle.window.specs.Means.{meansFrom, meansOf}
+use Rattle.window.specs.Sums.{weightSum, valueSum, thermometerWeights, thermometerSum, meansFrom, meansOf}
 use Rattle.product.specs.Scenes.{earthPart}
 use Rattle.product.specs.Product.{u16Bytes}
 use Rattle.product.proofs.Bytes.{cell-stands, u16-that-stands}

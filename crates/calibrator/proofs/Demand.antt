@@ -1,7 +1,7 @@
 -- Demand 3, entire: for every accepted table, every list of feeds and every second list. After any list of feeds the calibrator is an
 -- equation of the plain roll, so that each step leaves what the roll says.
 use mathlib.Core.Path.{_≡_, refl, sym, ap, subst, subst₂, _∙_}
-use mathlib.Core.List.{List, [], _∷_, _++_}
+use mathlib.Core.List.{List, [], _∷_}
 use lib.ListN.{drop}
 use lib.Seq.{take-at, drop-at}
 use Rattle.lists.specs.Tests.{Verdict, passes, fails}
@@ -15,8 +15,8 @@ use Rattle.calibrator.specs.declared.Calibrator.{Calibrator}
 use Rattle.calibrator.specs.Refusals.{delivered}
 use Rattle.calibrator.specs.Roll.{Feed, Roll, lastNumber, verdictAt, joinedBy, joined}
 use Rattle.calibrator.specs.Moments.{Moment, currentNumber, earthCounts, channelsAt, productAt}
-use Rattle.calibrator.specs.Feeding.{Outcome, Stepped, freshOf, step}
-use Rattle.calibrator.specs.Promise.{AcceptedClaim, FeedClaimBy, FeedClaim, Each, Alike, SameOutcome, SameProducts, Promise, DemandThree}
+use Rattle.calibrator.specs.Feeding.{Outcome, Stepped, step}
+use Rattle.calibrator.specs.Promise.{AcceptedClaim, FeedClaimBy, FeedClaim, Each, Alike, SameOutcome, SameProducts, DemandThree}
 use Rattle.calibrator.proofs.RollLaws.{NumbersTo}
 use Rattle.calibrator.proofs.SceneClaims.{scene-claim, delivered-in}
 use Rattle.calibrator.proofs.RolledOutcomes.{fedMoment, writtenAt, outcomeBy}

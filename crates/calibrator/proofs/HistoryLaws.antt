@@ -1,7 +1,7 @@
 -- After any list of feeds the calibrator is an equation of the plain roll, so that what each feed leaves is what the roll says.
 use Prim.Native.Nat.{ℕ, _+_, _<_, _≤_}
 use native.Mathlib.Omega.{arith}
-use mathlib.Core.Path.{_≡_, refl, sym, ap, ap₂, _∙_}
+use mathlib.Core.Path.{_≡_, refl, sym, ap, _∙_}
 use mathlib.Core.List.{List, [], _∷_, _++_}
 use mathlib.Core.Bool.{Bool, true, false, cond}
 use lib.Dec.{eqb}
@@ -26,7 +26,7 @@ use Rattle.calibrator.specs.declared.Calibrator.{Calibrator}
 use Rattle.calibrator.specs.Refusals.{delivered}
 use Rattle.calibrator.specs.Roll.{Feed, Roll, begun, lastNumber, verdictAt, joinedBy, joined}
 use Rattle.calibrator.specs.Moments.{earthCounts, channelsAt}
-use Rattle.calibrator.specs.Feeding.{Outcome, keptBy, freshOf, nextWindow, channelsIn, nextChannels, stepBy, step}
+use Rattle.calibrator.specs.Feeding.{keptBy, freshOf, nextWindow, channelsIn, nextChannels, stepBy, step}
 use Rattle.calibrator.proofs.Verdicts.{passes-facts}
 use Rattle.calibrator.proofs.RollLaws.{scanOfAge, NumbersTo, aged-roll, numbers-further}
 use Rattle.calibrator.proofs.SampleLaws.{means-at-is}

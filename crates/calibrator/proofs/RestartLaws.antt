@@ -18,8 +18,8 @@ use Rattle.acceptance.specs.declared.Scan.{Scan}
 use Rattle.acceptance.specs.Record.{recordLayout, scanNumber}
 use Rattle.window.specs.declared.Window.{Window}
 use Rattle.window.specs.declared.Channel.{Channel}
-use Rattle.window.specs.Ages.{windowOf}
-use Rattle.window.specs.Means.{meansOf, meansIn, stateOf}
+use Rattle.window.specs.Sums.{meansOf, meansIn}
+use Rattle.window.specs.Means.{stateOf}
 use Rattle.window.proofs.AgeLaws.{ScanShape, means-of-scans}
 use Rattle.product.specs.Product.{productLayout, productOf, deliveredCount}
 use Rattle.calibrator.specs.declared.Calibrator.{Calibrator}

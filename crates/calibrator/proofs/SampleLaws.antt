@@ -4,7 +4,6 @@ use native.Mathlib.Nat.{mul-zero}
 use native.Mathlib.Omega.{arith}
 use mathlib.Core.Path.{_≡_, refl, sym, ap, ap₂, fun-ext, subst, _∙_}
 use native.Mathlib.Decide.{decLt}
-use mathlib.Core.Logic.{_⊎_, inl, inr}
 use mathlib.Core.List.{List, [], _∷_, _++_}
 use mathlib.Core.Bool.{Bool, true, false, _&&_, cond, false≢true}
 use lib.Dec.{eqb, ltb}
@@ -26,18 +25,16 @@ use Rattle.table.specs.Settings.{Settings, Channel, channels, leastOf}
 use Rattle.table.specs.Ranges.{firstOf, sizeOf, targetOf}
 use Rattle.acceptance.specs.declared.Scan.{Scan}
 use Rattle.acceptance.specs.Good.{Sample, good, chosenTo, chosen, atLeast}
-use Rattle.acceptance.specs.Counts.{Sides, none, overlap, fourCounts, withinLimits, goodCounts, withoutOverlap, acceptedSides}
+use Rattle.acceptance.specs.Counts.{Sides, none, overlap, fourCounts, withinLimits, goodCounts, withoutOverlap, acceptedSides, total, scanValue, noCounts}
 use Rattle.acceptance.proofs.Chosen.{chosen-at-most, length-four-counts}
 use Rattle.table.specs.declared.Limits.{Limits}
 use Rattle.acceptance.specs.Record.{scanNumber, instrument, sideValue, channelPart}
 use Rattle.acceptance.specs.Accepted.{AcceptedSamples, acceptedSamples, acceptedCounts, acceptedThermometers, readingAt, kelvin, kelvins, inLimits, passedLimits}
-use Rattle.acceptance.specs.Kept.{total, scanValue, noCounts, keptSide, keptKelvin, keptScan}
+use Rattle.acceptance.specs.Kept.{keptSide, keptKelvin, keptScan}
 use Rattle.acceptance.proofs.Kelvin.{kelvin-low}
 use Rattle.acceptance.proofs.KeptKelvin.{kept-of-chosen}
 use Rattle.acceptance.proofs.Targets.{goodFlags, length-kelvins}
-use Rattle.window.specs.declared.Means.{Means}
-use Rattle.window.specs.Sums.{weightSum, valueSum, thermometerWeights, thermometerSum}
-use Rattle.window.specs.Means.{meansFrom, meansOf}
+use Rattle.window.specs.Sums.{weightSum, valueSum, thermometerWeights, thermometerSum, meansFrom, meansOf}
 use Rattle.window.specs.Ages.{noScan}
 use Rattle.calibrator.specs.Feeding.{keptBy}
 use Rattle.calibrator.specs.Roll.{Roll}

@@ -8,7 +8,7 @@ use mathlib.Core.List.{List, [], _∷_, _++_}
 use mathlib.Core.Bool.{Bool, true, false, false≢true, cond}
 use mathlib.Core.Logic.{_⊎_, inl, inr}
 use lib.Dec.{eqb}
-use lib.IntN.{ℤ, pos, natAbs, _+ℤ_, _-ℤ_, _*ℤ_}
+use lib.IntN.{ℤ, pos, natAbs, _-ℤ_, _*ℤ_}
 use lib.Signed.{_≤ℤ_, _<ℤ_}
 use lib.ListN.{getD, replicate}
 use lib.Ieee.{Float, binary32, ofBits}
@@ -25,13 +25,13 @@ use Rattle.lists.proofs.Count.{count-same}
 use Rattle.table.specs.Settings.{Settings, channels}
 use Rattle.table.specs.Ranges.{targetOf}
 use Rattle.table.specs.ValueRanges.{SettingsRange}
-use Rattle.acceptance.specs.declared.Scan.{Scan}
 use Rattle.acceptance.specs.Record.{scanNumber}
 use Rattle.acceptance.proofs.Ranges.{KelvinRange, kept-scan-kelvins}
 use Rattle.window.specs.declared.Means.{Means}
 use Rattle.window.specs.declared.Channel.{Channel}
 use Rattle.window.specs.Ages.{noScan}
-use Rattle.window.specs.Means.{meansFrom, Tw, Tc, D, flagOf, constantsOf, stateOf}
+use Rattle.window.specs.Sums.{meansFrom}
+use Rattle.window.specs.Means.{Tw, Tc, D, flagOf, constantsOf, stateOf}
 use Rattle.window.proofs.SumLaws.{target-sum-at-least}
 use Rattle.window.proofs.FlagLaws.{Unflagged, unflagged-flag-zero, flag-zero-unflagged, flag-zero-weights-above, flag-zero-warm-above, flag-zero-cold-above}
 use Rattle.scene.specs.declared.Constants.{Constants}

@@ -18,13 +18,13 @@ use Rattle.fields.specs.Fields.{fieldIsRight, layoutIsRight}
 use Rattle.table.specs.Settings.{channels}
 use Rattle.acceptance.specs.Record.{scanNumber}
 use Rattle.acceptance.specs.Good.{differs, good, chosenTo}
-use Rattle.acceptance.specs.Counts.{Sides, fourCounts, withinLimits, withoutOverlap, acceptedSides}
+use Rattle.acceptance.specs.Counts.{Sides, fourCounts, withinLimits, withoutOverlap, acceptedSides, noCounts}
 use Rattle.acceptance.specs.Accepted.{acceptedCounts, acceptedSamples}
-use Rattle.acceptance.specs.Kept.{noCounts, keptScan}
+use Rattle.acceptance.specs.Kept.{keptScan}
 use Rattle.window.specs.declared.Channel.{Channel}
 use Rattle.window.specs.Ages.{noScan, windowOf, shifted, windowAfter}
-use Rattle.window.specs.Sums.{weightSum, valueSum, thermometerWeights, thermometerSum}
-use Rattle.window.specs.Means.{meansFrom, flagOf, noConstants, stateOf}
+use Rattle.window.specs.Sums.{weightSum, valueSum, thermometerWeights, thermometerSum, meansFrom}
+use Rattle.window.specs.Means.{flagOf, noConstants, stateOf}
 use Rattle.scene.specs.declared.Scene.the-variants.{Flagged, Outside}
 use Rattle.scene.specs.Scene.{bits, sceneOf}
 use Rattle.product.specs.Scenes.{sceneIn}

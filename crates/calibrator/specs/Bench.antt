@@ -11,8 +11,7 @@ use Rattle.table.specs.declared.Limits.{Limits}
 use Rattle.table.specs.Settings.{Settings, settingsOf, thermometers, channels}
 use Rattle.table.specs.Opening.{ages}
 use Rattle.acceptance.specs.Good.{good, atLeast}
-use Rattle.acceptance.specs.Counts.{Sides, withinLimits, goodCounts, acceptedSides}
-use Rattle.acceptance.specs.Kept.{scanValue}
+use Rattle.acceptance.specs.Counts.{Sides, withinLimits, goodCounts, acceptedSides, scanValue}
 use Rattle.window.specs.declared.Channel.{Channel}
 use Rattle.scene.specs.Temperature.{outside}
 use Rattle.product.specs.Product.{u16Bytes, u32Bytes, fieldBytes}

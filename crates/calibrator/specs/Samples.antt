@@ -12,10 +12,9 @@ use Rattle.table.specs.declared.Target.the-variants.{Kav, Wg}
 use Rattle.table.specs.Settings.{Settings}
 use Rattle.table.specs.Ranges.{firstOf, targetOf}
 use Rattle.acceptance.specs.Good.{Sample}
-use Rattle.acceptance.specs.Counts.{Sides, none}
+use Rattle.acceptance.specs.Counts.{Sides, none, scanValue, noCounts}
 use Rattle.acceptance.specs.Record.{scanNumber}
 use Rattle.acceptance.specs.Accepted.{AcceptedSamples, acceptedSamples}
-use Rattle.acceptance.specs.Kept.{scanValue, noCounts}
 use Rattle.window.specs.declared.Means.{Means}
 use Rattle.calibrator.specs.Roll.{Roll}
 

@@ -3,7 +3,7 @@ use mathlib.Core.Path.{refl, _∙_, ap₂}
 use mathlib.Core.List.{[], _∷_}
 use lib.IntN.{pos, _+ℤ_, _-ℤ_, _*ℤ_}
 use lib.Signed.{_<ℤ_}
-use Rattle.integers.specs.Fractions.{Fraction, _/ᶠ_, _+ᶠ_, _-ᶠ_, _*ᶠ_, _÷ᶠ_, _≡ᶠ_, Equal}
+use Rattle.integers.specs.Fractions.{Fraction, _/ᶠ_, _+ᶠ_, _-ᶠ_, _*ᶠ_, _÷ᶠ_, Equal}
 use Rattle.integers.proofs.Ring.{_:+_, _:-_, _:*_, opp, ring, #, v0, v1, v2, v3, v4, v5, v6, v7}
 use Rattle.integers.proofs.Order.{at-most-antisym}
 use Rattle.integers.proofs.Certificate.{_:<_, _:≡_, hyp, tim, _⊕_, _⊗_, le-by}

@@ -1,7 +1,7 @@
 -- Which scene a count has: one law for each outcome of the four tests. A temperature is delivered exactly when all four pass, and it is T
 -- itself in units.
 use mathlib.Core.Path.{_≡_, refl, sym, _∙_, ap₂}
-use mathlib.Core.Bool.{Bool, true, false}
+use mathlib.Core.Bool.{true, false}
 use mathlib.Core.List.{[], _∷_}
 use Prim.Native.Nat.{ℕ, _≤_}
 use native.Mathlib.Omega.{arith}

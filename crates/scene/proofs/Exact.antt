@@ -1,7 +1,7 @@
 -- The f32 of a temperature: for t from 1 to 16,777,215 it is t / 4096 itself, it is the product that the code forms, 4096 times it is t
 -- again, its bits give it back and are no mark's, and its order is that of t. No scene is NaN.
 use Prim.Native.Nat.{ℕ, zero, suc, _+_, _-_, _*_, _/_, _%_, _^_, _<_, _≤_, compare}
-use native.Mathlib.Nat.{mul-one, mul-assoc, lt-of-lt-of-le, mul-div-cancel, mul-right-comm, mul-lt-mul-of-pos-right, mul-le-mul-right, mul-pos}
+use native.Mathlib.Nat.{mul-one, mul-assoc, lt-of-lt-of-le, mul-right-comm, mul-lt-mul-of-pos-right, mul-le-mul-right, mul-pos}
 use native.Mathlib.Omega.{arith}
 use mathlib.Core.Path.{_≡_, refl, sym, ap, _∙_, subst}
 use mathlib.Core.Bool.{Bool, true, false, not, cond, false≢true}

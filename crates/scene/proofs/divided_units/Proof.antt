@@ -16,7 +16,7 @@ use Rattle.integers.proofs.Machine.{bounded-fits, reads-back, result-reads-back
 use Rattle.scene.specs.declared.Constants.{Constants}
 use Rattle.scene.specs.Temperature.{X, temperature}
 use Rattle.scene.specs.Ranges.{ConstantsRange}
-use Rattle.scene.proofs.Ranges.{n-bounded, x-bounded, n-rise-bounded, linear-bounded, d-fits, rise-fits, n-fits}
+use Rattle.scene.proofs.Ranges.{n-bounded, x-bounded, n-rise-bounded, linear-bounded, d-fits, rise-fits}
 use Rattle.scene.proofs.divided_units.Statement.{statement}
 use Rattle.scene.proofs.divided_units.Tie as tie
 

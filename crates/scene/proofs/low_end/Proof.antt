@@ -1,5 +1,5 @@
 -- `scene::low_end` meets its contract: N is a natural number, N times 2^63 / D is below 2^64, and its 2^31ths are the low end.
-use mathlib.Core.Path.{_≡_, sym, subst}
+use mathlib.Core.Path.{sym, subst}
 use Prim.Native.Nat.{ℕ, _*_, _/_}
 use lib.IntN.{natAbs}
 use mir.Syntax.{w64}

@@ -3,7 +3,7 @@
 use mathlib.Core.Path.{_≡_, _∙_}
 use lib.Dec.{lit<}
 use lib.IntN.{ℤ, pos, _+ℤ_}
-use mir.Syntax.{Width, w32, w64}
+use mir.Syntax.{w32, w64}
 use mir.Val.{SFits, toZ, ofZ}
 use Rattle.integers.specs.Bounds.{Bounded}
 use Rattle.integers.proofs.Machine.{bounded-fits, reads-back, result-reads-back}

@@ -7,7 +7,6 @@ use lib.IntN.{pos}
 use lib.Signed.{_≤ℤ_, _<ℤ_}
 use mir.Syntax.{w64}
 use mir.Val.{toZ, ofZ}
-use borrow.Author.Needs.{needs}
 use Rattle.integers.proofs.Machine.{reads-back, result-reads-back}
 use Rattle.integers.proofs.Order.{leZ-true, leZ-false}
 use Rattle.thermometer.specs.Rule.{F, unitsAt}
