@@ -1,14 +1,20 @@
 //! Another implementation against this one, byte for byte.
 //!
 //! Each function compares one case of a seed and takes the other implementation as a closure, so
-//! that a kind of `check::run::KINDS` can be made of each part as soon as the other has it.
+//! that a kind of `check::run::KINDS` can be made of each part as soon as the other has it. What this
+//! implementation answers comes from its checks, which count the classes of the inputs compared.
 
 use std::fmt::Debug;
 
-use crate::acceptance::{accepted_samples, AcceptedCount, AcceptedSamples};
-use crate::bytes::{field, i16_at, i32_at, layout_is_right, u16_at, u32_at};
-use crate::calibrator::judge;
-use crate::check::lists::{outcomes, Outcome};
+use crate::check::counters::Counters;
+use crate::check::listings::{checked_listing, checked_stream};
+use crate::check::lists::checked_outcomes;
+use crate::check::numbers::checked_division;
+use crate::check::outcomes::Outcome;
+use crate::check::samples::count_samples;
+use crate::check::tables::checked_answer;
+use crate::check::thermometers::checked_thermometer;
+use crate::check::twins::checked_twin;
 use crate::generator::laid_out::laid_out;
 use crate::generator::listings::listing_input;
 use crate::generator::lists::{feed_list, FeedList};
@@ -16,17 +22,15 @@ use crate::generator::numbers::{
     division_pairs, field_case, layout_case, number_bytes, rounding_pairs,
 };
 use crate::generator::random::case_seed;
-use crate::generator::random_tables::{accepted_table, table_bytes};
-use crate::generator::table_neighbours::table_neighbours;
-use crate::generator::tables::TableValues;
+use crate::generator::random_tables::{seed_neighbours, table_bytes};
 use crate::generator::thermometers::{thermometer_input, ThermometerInput};
 use crate::generator::twins::alike_twin;
-use crate::listing::listing;
-use crate::record::ScanRecord;
-use crate::rounding::{floor, r};
-use crate::station::{calibrated, feed_all, LaidOut};
-use crate::table::open;
-use crate::thermometer::one_thermometer;
+use crate::second::acceptance::{accepted_samples, AcceptedCount, AcceptedSamples};
+use crate::second::bytes::{field, i16_at, i32_at, layout_is_right, u16_at, u32_at};
+use crate::second::calibrator::judge;
+use crate::second::record::ScanRecord;
+use crate::second::station::{calibrated, feed_all, LaidOut};
+use crate::second::table::open;
 
 fn same<T: PartialEq + Debug>(about: impl Debug, other: T, this: T) -> Result<(), String> {
     if other == this {
@@ -37,19 +41,27 @@ fn same<T: PartialEq + Debug>(about: impl Debug, other: T, this: T) -> Result<()
 }
 
 /// The floor of a / b, b above 0.
-pub fn divisions(seed: u64, other: impl Fn(i64, i64) -> i64) -> Result<(), String> {
+pub fn divisions(
+    seed: u64,
+    other: impl Fn(i64, i64) -> i64,
+    counters: &mut Counters,
+) -> Result<(), String> {
     for (a, b) in division_pairs(seed, 200) {
-        let this = floor(a as i128, b as i128);
+        let (this, _) = checked_division(a as i128, b as i128, counters)?;
         same(("floor", a, b), other(a, b) as i128, this)?;
     }
     Ok(())
 }
 
 /// r(a, b), b above 0, for every a and b.
-pub fn roundings(seed: u64, other: impl Fn(i64, i64) -> i64) -> Result<(), String> {
+pub fn roundings(
+    seed: u64,
+    other: impl Fn(i64, i64) -> i64,
+    counters: &mut Counters,
+) -> Result<(), String> {
     let pairs = rounding_pairs(seed, 200);
     for (a, b) in pairs.into_iter().chain(division_pairs(seed, 200)) {
-        let this = r(a as i128, b as i128);
+        let (_, this) = checked_division(a as i128, b as i128, counters)?;
         same(("r", a, b), other(a, b) as i128, this)?;
     }
     Ok(())
@@ -92,21 +104,24 @@ pub fn layouts(seed: u64, other: impl Fn(&[u8], &[(u8, usize)]) -> bool) -> Resu
 }
 
 /// Opening a table: 0, or the number of the refusal.
-pub fn table(seed: u64, other: impl Fn(&[u8]) -> u8) -> Result<(), String> {
+pub fn table(
+    seed: u64,
+    other: impl Fn(&[u8]) -> u8,
+    counters: &mut Counters,
+) -> Result<(), String> {
     let bytes = table_bytes(seed);
-    let this = open(&bytes).err().unwrap_or(0);
+    let this = checked_answer(&bytes, counters)?;
     same("table", other(&bytes), this)
 }
 
 /// Opening every neighbour of the bench table (seed 0) or of the accepted table of a seed.
-pub fn all_table_neighbours(seed: u64, other: impl Fn(&[u8]) -> u8) -> Result<(), String> {
-    let base = if seed == 0 {
-        TableValues::bench()
-    } else {
-        accepted_table(seed)
-    };
-    for neighbour in table_neighbours(&base) {
-        let this = open(&neighbour.bytes).err().unwrap_or(0);
+pub fn all_table_neighbours(
+    seed: u64,
+    other: impl Fn(&[u8]) -> u8,
+    counters: &mut Counters,
+) -> Result<(), String> {
+    for neighbour in seed_neighbours(seed) {
+        let this = checked_answer(&neighbour.bytes, counters)?;
         same(&neighbour.description, other(&neighbour.bytes), this)?;
     }
     Ok(())
@@ -116,9 +131,10 @@ pub fn all_table_neighbours(seed: u64, other: impl Fn(&[u8]) -> u8) -> Result<()
 pub fn thermometer(
     seed: u64,
     other: impl Fn(&ThermometerInput) -> Result<i32, u8>,
+    counters: &mut Counters,
 ) -> Result<(), String> {
     let input = thermometer_input(seed);
-    let this = one_thermometer(&input.reading(), &input.coefficients());
+    let this = checked_thermometer(&input, counters)?;
     same(input, other(&input).map(|t| t as i128), this)
 }
 
@@ -143,15 +159,20 @@ fn kept(samples: &AcceptedSamples) -> Vec<u32> {
 }
 
 /// What the scan of each accepted record of a list keeps, given the bytes of table and record.
-pub fn kept_values(seed: u64, other: impl Fn(&[u8], &[u8]) -> Vec<u32>) -> Result<(), String> {
+pub fn kept_values(
+    seed: u64,
+    other: impl Fn(&[u8], &[u8]) -> Vec<u32>,
+    counters: &mut Counters,
+) -> Result<(), String> {
     let list = feed_list(seed);
     let table = open(&list.table).expect("a list has an accepted table");
     let mut roll: Vec<ScanRecord> = Vec::new();
     for (index, feed) in list.feeds.iter().enumerate() {
         if let Ok(record) = judge(&roll, &feed.record, feed.buffer.len()) {
-            let this = kept(&accepted_samples(&table, &record));
+            let samples = accepted_samples(&table, &record);
+            count_samples(&table, &record, &samples, counters);
             let about = format!("feed {} of the list", index + 1);
-            same(about, other(&list.table, &feed.record), this)?;
+            same(about, other(&list.table, &feed.record), kept(&samples))?;
             roll.push(record);
         }
     }
@@ -185,19 +206,28 @@ fn same_outcomes(about: &str, other: &[Outcome], this: &[Outcome]) -> Result<(),
 }
 
 /// The answers and buffers of a list of feeds, and of its alike twin.
-pub fn feeds(seed: u64, other: impl Fn(&FeedList) -> Vec<Outcome>) -> Result<(), String> {
+pub fn feeds(
+    seed: u64,
+    other: impl Fn(&FeedList) -> Vec<Outcome>,
+    counters: &mut Counters,
+) -> Result<(), String> {
     let list = feed_list(seed);
-    same_outcomes("the list", &other(&list), &outcomes(&list))?;
+    let this = checked_outcomes(&list, counters)?;
+    same_outcomes("the list", &other(&list), &this)?;
     let twin = alike_twin(&list, case_seed(seed, 1));
-    same_outcomes("its twin", &other(&twin), &outcomes(&twin))
+    let this = checked_twin(&list, &this, &twin, counters)?;
+    same_outcomes("its twin", &other(&twin), &this)
 }
 
 /// The printed text of the listing program.
-pub fn listings(seed: u64, other: impl Fn(Option<&[u8]>, &[u8]) -> String) -> Result<(), String> {
+pub fn listings(
+    seed: u64,
+    other: impl Fn(Option<&[u8]>, &[u8]) -> String,
+    counters: &mut Counters,
+) -> Result<(), String> {
     let input = listing_input(seed);
-    let table = input.table.as_deref();
-    let this = listing(table, &input.input);
-    same("listing", other(table, &input.input), this)
+    let this = checked_listing(&input, counters)?;
+    same("listing", other(input.table.as_deref(), &input.input), this)
 }
 
 /// The first place at which two lists of bytes differ, and how long both are.
@@ -222,8 +252,10 @@ pub fn lists_in_one_call(seed: u64, other: impl Fn(&mut LaidOut) -> u8) -> Resul
 pub fn calibrations(
     seed: u64,
     other: impl Fn(Option<&[u8]>, &[u8]) -> (Vec<u8>, String),
+    counters: &mut Counters,
 ) -> Result<(), String> {
     let input = listing_input(seed);
+    let _ = checked_stream(&input, counters)?;
     let table = input.table.as_deref();
     let (products, refusals) = other(table, &input.input);
     let (this_products, this_refusals) = calibrated(table, &input.input);
@@ -234,17 +266,27 @@ pub fn calibrations(
 #[cfg(test)]
 mod tests {
     use super::*;
+    use crate::check::outcomes::outcomes;
+    use crate::second::listing::listing;
+    use crate::second::thermometer::one_thermometer;
 
     /// Whether a comparison fails at one of the first seeds.
-    fn finds(comparison: impl Fn(u64) -> Result<(), String>, seeds: u64) -> bool {
-        (0..seeds).any(|seed| comparison(seed).is_err())
+    fn finds(comparison: impl Fn(u64, &mut Counters) -> Result<(), String>, seeds: u64) -> bool {
+        let mut counters = Counters::new();
+        (0..seeds).any(|seed| comparison(seed, &mut counters).is_err())
     }
 
     #[test]
     fn divisions_differ_from_cutting_towards_zero() {
         let right = |a: i64, b: i64| a.div_euclid(b);
-        assert!(!finds(|seed| divisions(seed, right), 20));
-        assert!(finds(|seed| divisions(seed, |a, b| a / b), 20));
+        assert!(!finds(
+            |seed, counters| divisions(seed, right, counters),
+            20
+        ));
+        assert!(finds(
+            |seed, counters| divisions(seed, |a, b| a / b, counters),
+            20
+        ));
     }
 
     #[test]
@@ -253,14 +295,17 @@ mod tests {
             ((2 * a as i128 + b as i128 - less).div_euclid(2 * b as i128)) as i64
         };
         let right = |a: i64, b: i64| wide(a, b, 0);
-        assert!(!finds(|seed| roundings(seed, right), 20));
+        assert!(!finds(
+            |seed, counters| roundings(seed, right, counters),
+            20
+        ));
         let down = |a: i64, b: i64| wide(a, b, 1);
-        assert!(finds(|seed| roundings(seed, down), 20));
+        assert!(finds(|seed, counters| roundings(seed, down, counters), 20));
         let away = |a: i64, b: i64| {
             let size = (2 * a.unsigned_abs() as i128 + b as i128) / (2 * b as i128);
             (size * a.signum() as i128) as i64
         };
-        assert!(finds(|seed| roundings(seed, away), 20));
+        assert!(finds(|seed, counters| roundings(seed, away, counters), 20));
     }
 
     #[test]
@@ -275,12 +320,12 @@ mod tests {
                 i32::from_be_bytes(four),
             )
         };
-        assert!(!finds(|seed| numbers(seed, right), 50));
+        assert!(!finds(|seed, _| numbers(seed, right), 50));
         let wrong = |bytes: &[u8], at: usize| {
             let (first, second, third, fourth) = right(bytes, at);
             (first.swap_bytes(), second, third, fourth)
         };
-        assert!(finds(|seed| numbers(seed, wrong), 50));
+        assert!(finds(|seed, _| numbers(seed, wrong), 50));
     }
 
     #[test]
@@ -292,27 +337,33 @@ mod tests {
             }
             layout_is_right(&other, layout)
         };
-        assert!(!finds(|seed| layouts(seed, layout_is_right), 200));
-        assert!(finds(|seed| layouts(seed, no_tag), 200));
+        assert!(!finds(|seed, _| layouts(seed, layout_is_right), 200));
+        assert!(finds(|seed, _| layouts(seed, no_tag), 200));
         fn longer(bytes: &[u8], at: usize, tag: u8, length: usize) -> Option<&[u8]> {
             field(bytes, at, tag, length).map(|_| &bytes[at..at + length])
         }
-        assert!(!finds(|seed| fields(seed, field), 200));
-        assert!(finds(|seed| fields(seed, longer), 200));
+        assert!(!finds(|seed, _| fields(seed, field), 200));
+        assert!(finds(|seed, _| fields(seed, longer), 200));
     }
 
     #[test]
     fn tables_differ_where_every_table_is_accepted() {
         let right = |bytes: &[u8]| open(bytes).err().unwrap_or(0);
-        assert!(!finds(|seed| table(seed, right), 50));
-        assert!(finds(|seed| table(seed, |_| 0), 50));
-        assert!(!finds(|seed| all_table_neighbours(seed, right), 1));
+        assert!(!finds(|seed, counters| table(seed, right, counters), 50));
+        assert!(finds(|seed, counters| table(seed, |_| 0, counters), 50));
+        assert!(!finds(
+            |seed, counters| all_table_neighbours(seed, right, counters),
+            1
+        ));
         // A sum cut to eight bits.
         let cut = |bytes: &[u8]| match right(bytes) {
             3 if bytes[3..11].iter().fold(0u8, |sum, w| sum.wrapping_add(*w)) == 1 => 0,
             answer => answer,
         };
-        assert!(finds(|seed| all_table_neighbours(seed, cut), 1));
+        assert!(finds(
+            |seed, counters| all_table_neighbours(seed, cut, counters),
+            1
+        ));
     }
 
     #[test]
@@ -320,9 +371,15 @@ mod tests {
         let right = |input: &ThermometerInput| {
             one_thermometer(&input.reading(), &input.coefficients()).map(|t| t as i32)
         };
-        assert!(!finds(|seed| thermometer(seed, right), 200));
+        assert!(!finds(
+            |seed, counters| thermometer(seed, right, counters),
+            200
+        ));
         let wrong = |input: &ThermometerInput| right(input).map(|t| (t + 1).min(245_760));
-        assert!(finds(|seed| thermometer(seed, wrong), 200));
+        assert!(finds(
+            |seed, counters| thermometer(seed, wrong, counters),
+            200
+        ));
     }
 
     #[test]
@@ -330,7 +387,7 @@ mod tests {
         let right = |table: &[u8], record: &[u8]| {
             accepted_samples(&open(table).unwrap(), &ScanRecord::read(record).unwrap())
         };
-        assert!(!finds(|seed| samples(seed, right), 2));
+        assert!(!finds(|seed, _| samples(seed, right), 2));
         let wrong = |table: &[u8], record: &[u8]| {
             let mut samples = right(table, record);
             for accepted in samples.cold.iter_mut().flatten() {
@@ -338,12 +395,12 @@ mod tests {
             }
             samples
         };
-        assert!(finds(|seed| samples(seed, wrong), 2));
+        assert!(finds(|seed, _| samples(seed, wrong), 2));
     }
 
     #[test]
     fn feeds_differ_by_one_byte() {
-        assert!(!finds(|seed| feeds(seed, outcomes), 2));
+        assert!(!finds(|seed, counters| feeds(seed, outcomes, counters), 2));
         let wrong = |list: &FeedList| {
             let mut wrong = outcomes(list);
             let last = wrong.iter_mut().rfind(|outcome| outcome.answer == 0);
@@ -352,20 +409,23 @@ mod tests {
             }
             wrong
         };
-        assert!(finds(|seed| feeds(seed, wrong), 2));
+        assert!(finds(|seed, counters| feeds(seed, wrong, counters), 2));
     }
 
     #[test]
     fn listings_differ_by_a_line_feed() {
-        assert!(!finds(|seed| listings(seed, listing), 10));
+        assert!(!finds(
+            |seed, counters| listings(seed, listing, counters),
+            10
+        ));
         let wrong =
             |table: Option<&[u8]>, input: &[u8]| listing(table, input).trim_end().to_string();
-        assert!(finds(|seed| listings(seed, wrong), 10));
+        assert!(finds(|seed, counters| listings(seed, wrong, counters), 10));
     }
 
     #[test]
     fn lists_in_one_call_differ_where_the_rest_is_not_answered() {
-        assert!(!finds(|seed| lists_in_one_call(seed, feed_all), 5));
+        assert!(!finds(|seed, _| lists_in_one_call(seed, feed_all), 5));
         let wrong = |list: &mut LaidOut| {
             let number = feed_all(list);
             if let Some(answer) = list.answers.iter_mut().find(|answer| **answer == 255) {
@@ -373,17 +433,23 @@ mod tests {
             }
             number
         };
-        assert!(finds(|seed| lists_in_one_call(seed, wrong), 40));
+        assert!(finds(|seed, _| lists_in_one_call(seed, wrong), 40));
     }
 
     #[test]
     fn calibrations_differ_where_a_refusal_leaves_a_product() {
-        assert!(!finds(|seed| calibrations(seed, calibrated), 5));
+        assert!(!finds(
+            |seed, counters| calibrations(seed, calibrated, counters),
+            5
+        ));
         let wrong = |table: Option<&[u8]>, input: &[u8]| {
             let (mut products, refusals) = calibrated(table, input);
             products.extend(refusals.bytes());
             (products, refusals)
         };
-        assert!(finds(|seed| calibrations(seed, wrong), 40));
+        assert!(finds(
+            |seed, counters| calibrations(seed, wrong, counters),
+            40
+        ));
     }
 }

@@ -52,6 +52,21 @@ fn report(failure: &Failure) -> ExitCode {
     ExitCode::from(1)
 }
 
+/// Prints how often each class was met. A class that was never met is a failure.
+fn verdict(counters: &Counters, command: &str) -> ExitCode {
+    for line in counters.lines() {
+        println!("{line}");
+    }
+    let missing = counters.missing();
+    if !missing.is_empty() {
+        println!("failed: never met: {}", missing.join("; "));
+        println!("repeat with: {command}");
+        return ExitCode::from(1);
+    }
+    println!("passed");
+    ExitCode::SUCCESS
+}
+
 fn check(options: &Options) -> ExitCode {
     let mut counters = Counters::new();
     if let Some((kind, seed)) = &options.case {
@@ -72,41 +87,37 @@ fn check(options: &Options) -> ExitCode {
     if let Err(failure) = run_all(options.seed, options.feeds, &mut counters) {
         return report(&failure);
     }
-    for line in counters.lines() {
-        println!("{line}");
-    }
-    let missing = counters.missing();
-    if !missing.is_empty() {
-        println!("failed: never met: {}", missing.join("; "));
-        let (seed, feeds) = (options.seed, options.feeds);
-        let command = format!("check --seed {seed} --feeds {feeds}");
-        println!("repeat with: cargo run --release --offline -- {command}");
-        return ExitCode::from(1);
-    }
-    println!("passed");
-    ExitCode::SUCCESS
+    let (seed, feeds) = (options.seed, options.feeds);
+    let command = format!("cargo run --release --offline -- check --seed {seed} --feeds {feeds}");
+    verdict(&counters, &command)
 }
 
 #[cfg(feature = "proved")]
 fn proved(options: &Options) -> ExitCode {
     use compare::proved;
+    let mut counters = Counters::new();
+    let (seed, thousands) = (options.seed, options.thousands);
     let result = match &options.case {
         Some((kind, seed)) => {
             println!("case {kind}:{seed}");
             match proved::KINDS.into_iter().find(|(name, _, _)| name == kind) {
-                Some((kind, comparison, _)) => proved::run_case(kind, comparison, *seed),
+                Some((kind, case, _)) => proved::run_case(kind, case, *seed, &mut counters),
                 None => Err(USAGE.to_string()),
             }
         }
         None => {
-            println!("seed {} thousands {}", options.seed, options.thousands);
-            proved::run(options.seed, options.thousands)
+            println!("seed {seed} thousands {thousands}");
+            proved::run(seed, thousands, &mut counters)
         }
     };
     match result {
-        Ok(()) => {
+        Ok(()) if options.case.is_some() => {
             println!("passed");
             ExitCode::SUCCESS
+        }
+        Ok(()) => {
+            let command = format!("tools/compare --seed {seed} --thousands {thousands}");
+            verdict(&counters, &command)
         }
         Err(what) => {
             println!("{what}");

@@ -10,13 +10,17 @@ use std::sync::atomic::{AtomicU64, Ordering};
 
 use crate::against;
 use crate::baseline::Constants;
-use crate::check::lists::Outcome;
+use crate::check::counters::Counters;
+use crate::check::outcomes::Outcome;
+use crate::check::run::{seed_of_case, Check};
+use crate::generator::laid_out::lay_out;
+use crate::generator::layouts::RECORD;
 use crate::generator::lists::FeedList;
 use crate::generator::random::case_seed;
 use crate::generator::tables::TableValues;
 use crate::generator::thermometers::ThermometerInput;
-use crate::product::LENGTH;
-use crate::station::LaidOut;
+use crate::second::product::LENGTH;
+use crate::second::station::LaidOut;
 
 extern "C" {
     fn compared_floor_div(a: i64, b: i64) -> i64;
@@ -176,8 +180,6 @@ fn open(bytes: &[u8]) -> u8 {
     unsafe { sounder_open(bytes.as_ptr(), bytes.len()) }
 }
 
-const RECORD_LAYOUT: [(u8, usize); 5] = [(1, 4), (2, 34), (3, 176), (4, 176), (5, 4_224)];
-
 /// The 59 values that a scan keeps of its accepted samples.
 fn kept(table: &[u8], scan: &[u8]) -> Vec<u32> {
     (0..59).map(|k| kept_value(table, scan, k)).collect()
@@ -186,7 +188,7 @@ fn kept(table: &[u8], scan: &[u8]) -> Vec<u32> {
 /// Value k of what a record keeps; all are worked out for it.
 pub fn kept_value(table: &[u8], scan: &[u8], k: usize) -> u32 {
     assert!(table.len() == 741 && scan.len() == 4_629 && k < 59);
-    assert!(layout_is_right(scan, &RECORD_LAYOUT));
+    assert!(layout_is_right(scan, &RECORD));
     unsafe { compared_kept(table.as_ptr(), table.len(), scan.as_ptr(), scan.len(), k) }
 }
 
@@ -243,7 +245,7 @@ pub fn feed_all(list: &mut LaidOut) -> u8 {
 
 /// Null pointers with a count of 0 are empty: an empty table is refused with 1, and under the bench
 /// table no feed is there.
-fn null_pointers(_: u64) -> Result<(), String> {
+fn null_pointers(_: u64, _: &mut Counters) -> Result<(), String> {
     let table = TableValues::bench().encode();
     let mut answers = [77; 3];
     let (opened, refused, fed) = unsafe {
@@ -293,7 +295,7 @@ static COMPARED_FEEDS: AtomicU64 = AtomicU64::new(0);
 /// What each feed of a list left.
 fn feeds(list: &FeedList) -> Vec<Outcome> {
     COMPARED_FEEDS.fetch_add(list.feeds.len() as u64, Ordering::Relaxed);
-    let mut laid_out = LaidOut::of(list);
+    let mut laid_out = lay_out(list);
     assert_eq!(feed_all(&mut laid_out), 0, "a list has an accepted table");
     let mut rest = &laid_out.buffers[..];
     let mut outcomes = Vec::new();
@@ -346,60 +348,80 @@ fn calibrate(table: Option<&[u8]>, input: &[u8]) -> (Vec<u8>, String) {
     run_program("calibrate", table, input)
 }
 
-type Comparison = fn(u64) -> Result<(), String>;
-
 /// The comparisons by the name that `--case` takes, and how many cases of each are run for a thousand.
-pub const KINDS: [(&str, Comparison, u64); 14] = [
-    ("floor_div", |seed| against::divisions(seed, floor_div), 10),
-    ("round", |seed| against::roundings(seed, round), 10),
-    ("numbers", |seed| against::numbers(seed, numbers), 200),
-    ("field", |seed| against::fields(seed, field), 1_000),
+pub const KINDS: [(&str, Check, u64); 14] = [
+    (
+        "floor_div",
+        |seed, counters| against::divisions(seed, floor_div, counters),
+        10,
+    ),
+    (
+        "round",
+        |seed, counters| against::roundings(seed, round, counters),
+        10,
+    ),
+    ("numbers", |seed, _| against::numbers(seed, numbers), 200),
+    ("field", |seed, _| against::fields(seed, field), 1_000),
     (
         "layout",
-        |seed| against::layouts(seed, layout_is_right),
+        |seed, _| against::layouts(seed, layout_is_right),
         1_000,
     ),
     (
         "thermometer",
-        |seed| against::thermometer(seed, thermometer),
+        |seed, counters| against::thermometer(seed, thermometer, counters),
         10_000,
     ),
-    ("table", |seed| against::table(seed, open), 1_000),
+    (
+        "table",
+        |seed, counters| against::table(seed, open, counters),
+        1_000,
+    ),
     (
         "neighbours",
-        |seed| against::all_table_neighbours(seed, open),
+        |seed, counters| against::all_table_neighbours(seed, open, counters),
         1,
     ),
-    ("kept", |seed| against::kept_values(seed, kept), 30),
-    ("feeds", |seed| against::feeds(seed, feeds), 80),
+    (
+        "kept",
+        |seed, counters| against::kept_values(seed, kept, counters),
+        30,
+    ),
+    (
+        "feeds",
+        |seed, counters| against::feeds(seed, feeds, counters),
+        80,
+    ),
     (
         "one_call",
-        |seed| against::lists_in_one_call(seed, feed_all),
+        |seed, _| against::lists_in_one_call(seed, feed_all),
         20,
     ),
     ("null_pointers", null_pointers, 1),
-    ("listing", |seed| against::listings(seed, listing), 30),
+    (
+        "listing",
+        |seed, counters| against::listings(seed, listing, counters),
+        30,
+    ),
     (
         "calibrate",
-        |seed| against::calibrations(seed, calibrate),
+        |seed, counters| against::calibrations(seed, calibrate, counters),
         30,
     ),
 ];
 
 /// Runs every comparison; the first difference is the error, with the command that repeats it.
-pub fn run(seed: u64, thousands: u64) -> Result<(), String> {
+pub fn run(seed: u64, thousands: u64, counters: &mut Counters) -> Result<(), String> {
     for (number, (kind, comparison, share)) in KINDS.into_iter().enumerate() {
         let master = case_seed(seed, number as u64);
         let cases = share * thousands;
         for index in 0..cases {
-            // The first neighbours are those of the bench table.
-            let first_neighbours = kind == "neighbours" && index == 0;
-            let seed = if first_neighbours {
-                0
-            } else {
-                case_seed(master, index)
-            };
-            run_case(kind, comparison, seed)?;
+            run_case(
+                kind,
+                comparison,
+                seed_of_case(kind, master, index),
+                counters,
+            )?;
         }
         println!("proved {kind}: {cases} cases agree");
     }
@@ -413,7 +435,12 @@ pub fn run(seed: u64, thousands: u64) -> Result<(), String> {
 }
 
 /// Runs one case of a comparison.
-pub fn run_case(kind: &str, comparison: Comparison, seed: u64) -> Result<(), String> {
+pub fn run_case(
+    kind: &str,
+    comparison: Check,
+    seed: u64,
+    counters: &mut Counters,
+) -> Result<(), String> {
     let repeat = format!("repeat with: tools/compare --case {kind}:{seed}");
-    comparison(seed).map_err(|what| format!("failed: {kind} {seed}: {what}\n{repeat}"))
+    comparison(seed, counters).map_err(|what| format!("failed: {kind} {seed}: {what}\n{repeat}"))
 }

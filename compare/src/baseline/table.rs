@@ -166,6 +166,7 @@ pub fn open(bytes: &[u8]) -> Result<Table, u8> {
 mod tests {
     use super::*;
     use crate::against;
+    use crate::check::counters::Counters;
 
     fn answer(bytes: &[u8]) -> u8 {
         open(bytes).err().unwrap_or(0)
@@ -174,7 +175,7 @@ mod tests {
     #[test]
     fn opening_agrees_with_the_second_implementation() {
         for seed in 0..500 {
-            against::table(seed, answer).unwrap();
+            against::table(seed, answer, &mut Counters::new()).unwrap();
         }
     }
 
@@ -182,7 +183,7 @@ mod tests {
     fn opening_neighbours_agrees_with_the_second_implementation() {
         // Seed 0 is the bench table.
         for seed in 0..20 {
-            against::all_table_neighbours(seed, answer).unwrap();
+            against::all_table_neighbours(seed, answer, &mut Counters::new()).unwrap();
         }
     }
 }

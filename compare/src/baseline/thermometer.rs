@@ -65,6 +65,7 @@ pub fn thermometer(
 mod tests {
     use super::*;
     use crate::against;
+    use crate::check::counters::Counters;
 
     #[test]
     fn the_thermometer_agrees_with_the_second_implementation() {
@@ -81,7 +82,7 @@ mod tests {
                     i.count,
                 )
             };
-            against::thermometer(seed, other).unwrap();
+            against::thermometer(seed, other, &mut Counters::new()).unwrap();
         }
     }
 }

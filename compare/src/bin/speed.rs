@@ -4,14 +4,15 @@ use std::hint::black_box;
 use std::time::Instant;
 
 use compare::baseline;
+use compare::generator::laid_out::lay_out;
 use compare::generator::lists::{Feed, FeedList};
 use compare::generator::random::{case_seed, Random};
 use compare::generator::records::RecordValues;
 use compare::generator::tables::TableValues;
 use compare::generator::thermometers::{thermometer_input, ThermometerInput};
-use compare::product::LENGTH;
 use compare::proved;
-use compare::station::{self, LaidOut};
+use compare::second::product::LENGTH;
+use compare::second::station::{self, LaidOut};
 
 /// The least time of several rounds for each of these, in nanoseconds a call. They take turns in each
 /// round.
@@ -168,7 +169,7 @@ fn baseline_feeds(list: &LaidOut, buffers: &mut [u8]) {
 /// Whole lists. The second implementation computes each product from all records since the first, so
 /// it is timed on short lists alone, in a tenth of the rounds.
 fn feeds(count: usize, rounds: usize) {
-    let mut list = LaidOut::of(&scans(count));
+    let mut list = lay_out(&scans(count));
     let by_hand = list.clone();
     let mut second = list.clone();
     let mut buffers = list.buffers.clone();
@@ -234,7 +235,7 @@ fn move_bytes(earth: &[u8], scenes: &mut [u8]) {
 fn parts() {
     const COUNT: usize = 100;
     let feeds = scans(COUNT);
-    let mut list = LaidOut::of(&feeds);
+    let mut list = lay_out(&feeds);
     let record = &feeds.feeds[0].record;
     let earth = &record[405..];
     let (mut product, mut scenes) = (vec![0; LENGTH], vec![0; 2 * earth.len()]);

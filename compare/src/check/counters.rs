@@ -51,8 +51,8 @@ pub const CLASSES: &[(&str, &[&str])] = &[
             "difference dT",
             "difference dT + 1",
             "one rival differs",
-            "two rivals differ",
-            "three or more",
+            "dropped by two rivals",
+            "dropped by more",
             "least number met exactly",
             "least number missed by one",
             "accepted without weight",
@@ -72,8 +72,14 @@ pub const CLASSES: &[(&str, &[&str])] = &[
         ],
     ),
     (
-        "lowest warm less highest cold",
-        &["below -1", "-1", "0", "1", "above 1"],
+        "warm and cold",
+        &[
+            "overlap by more",
+            "overlap by 1",
+            "equal",
+            "1 apart",
+            "farther apart",
+        ],
     ),
     ("bad side", &["warm only", "cold only", "both"]),
     ("window age", &["0", "1", "2", "3", "4", "5", "6", "7"]),
@@ -125,16 +131,19 @@ pub const CLASSES: &[(&str, &[&str])] = &[
         ],
     ),
     (
-        "listing",
+        "program input",
         &[
-            "empty input",
-            "short last record",
             "table missing",
             "table refused",
-            "scan line",
-            "refused line",
+            "empty input",
+            "short last record",
+            "12 or more records",
+            "gap between numbers",
+            "full window",
+            "gap after a full window",
         ],
     ),
+    ("listing", &["scan line", "refused line"]),
 ];
 
 #[derive(Clone, Debug, Default)]

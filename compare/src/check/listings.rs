@@ -1,13 +1,14 @@
-//! Checks of the listing: each line against the feed it stands for, delivered scenes counted in
-//! field 0x22.
+//! Checks of the programs' inputs, and of the listing: each line against the feed it stands for,
+//! delivered scenes counted in field 0x22.
 
 use super::counters::Counters;
-use super::lists::outcomes;
-use crate::generator::listings::listing_input;
+use super::lists::checked_outcomes;
+use super::outcomes::Outcome;
+use super::tables::checked_answer;
+use crate::generator::listings::{listing_input, ListingInput};
 use crate::generator::lists::{Feed, FeedList};
-use crate::listing::listing;
-use crate::product::LENGTH;
-use crate::table::open;
+use crate::second::listing::listing;
+use crate::second::product::{number_of, LENGTH};
 
 /// The line of an accepted feed, from the product's bytes by positions counted by hand.
 fn line_of(product: &[u8]) -> String {
@@ -24,48 +25,107 @@ fn line_of(product: &[u8]) -> String {
     )
 }
 
-pub fn check_listing(seed: u64, counters: &mut Counters) -> Result<(), String> {
-    let input = listing_input(seed);
-    let printed = listing(input.table.as_deref(), &input.input);
-    let mut expected = Vec::new();
-    if input.table.is_none() {
-        counters.met("listing", "table missing");
+/// Counts what the numbers of a stream's accepted records show the programs.
+fn count_numbers(numbers: &[u32], counters: &mut Counters) {
+    let mut met = |class: &str| counters.met("program input", class);
+    if numbers.windows(2).any(|pair| pair[1] - pair[0] > 1) {
+        met("gap between numbers");
     }
-    let table = input.table.unwrap_or_default();
-    match open(&table) {
-        Err(number) => {
-            counters.met("listing", "table refused");
-            expected.push(format!("refused {number}"));
-        }
-        Ok(_) => {
-            let feeds: Vec<Feed> = input
-                .input
-                .chunks(4_629)
-                .map(|record| Feed {
-                    record: record.to_vec(),
-                    buffer: vec![0; LENGTH],
-                })
-                .collect();
-            if feeds.is_empty() {
-                counters.met("listing", "empty input");
-            }
-            if input.input.len() % 4_629 != 0 {
-                counters.met("listing", "short last record");
-            }
-            for outcome in outcomes(&FeedList { table, feeds }) {
+    let full = |window: &[u32]| window[7] - window[0] == 7;
+    if numbers.windows(8).any(full) {
+        met("full window");
+    }
+    let gap_after = |nine: &[u32]| full(nine) && (2..=7).contains(&(nine[8] - nine[7]));
+    if numbers.windows(9).any(gap_after) {
+        met("gap after a full window");
+    }
+}
+
+/// What the records of an input leave, or the refusal of its table.
+pub fn checked_stream(
+    input: &ListingInput,
+    counters: &mut Counters,
+) -> Result<Result<Vec<Outcome>, u8>, String> {
+    if input.table.is_none() {
+        counters.met("program input", "table missing");
+    }
+    let table = input.table.clone().unwrap_or_default();
+    let number = checked_answer(&table, counters)?;
+    if number != 0 {
+        counters.met("program input", "table refused");
+        return Ok(Err(number));
+    }
+    let feed = |record: &[u8]| Feed {
+        record: record.to_vec(),
+        buffer: vec![0; LENGTH],
+    };
+    let feeds: Vec<Feed> = input.input.chunks(4_629).map(feed).collect();
+    if feeds.is_empty() {
+        counters.met("program input", "empty input");
+    }
+    if input.input.len() % 4_629 != 0 {
+        counters.met("program input", "short last record");
+    }
+    if input.input.len() / 4_629 >= 12 {
+        counters.met("program input", "12 or more records");
+    }
+    let outcomes = checked_outcomes(&FeedList { table, feeds }, counters)?;
+    let accepted = outcomes.iter().filter(|outcome| outcome.answer == 0);
+    let numbers: Vec<u32> = accepted.map(|outcome| number_of(&outcome.buffer)).collect();
+    count_numbers(&numbers, counters);
+    Ok(Ok(outcomes))
+}
+
+pub fn check_listing(seed: u64, counters: &mut Counters) -> Result<(), String> {
+    checked_listing(&listing_input(seed), counters).map(drop)
+}
+
+/// The printed text.
+pub fn checked_listing(input: &ListingInput, counters: &mut Counters) -> Result<String, String> {
+    let printed = listing(input.table.as_deref(), &input.input);
+    let mut expected = String::new();
+    match checked_stream(input, counters)? {
+        Err(number) => expected += &format!("refused {number}\n"),
+        Ok(outcomes) => {
+            for outcome in outcomes {
                 if outcome.answer == 0 {
                     counters.met("listing", "scan line");
-                    expected.push(line_of(&outcome.buffer));
+                    expected += &format!("{}\n", line_of(&outcome.buffer));
                 } else {
                     counters.met("listing", "refused line");
-                    expected.push(format!("refused {}", outcome.answer));
+                    expected += &format!("refused {}\n", outcome.answer);
                 }
             }
         }
     }
-    let expected: String = expected.iter().map(|line| format!("{line}\n")).collect();
     if printed != expected {
         return Err(format!("listing:\n{printed}expected:\n{expected}"));
     }
-    Ok(())
+    Ok(printed)
+}
+
+#[cfg(test)]
+mod tests {
+    use super::*;
+
+    fn met(numbers: &[u32]) -> [u64; 3] {
+        let mut counters = Counters::new();
+        count_numbers(numbers, &mut counters);
+        [
+            "gap between numbers",
+            "full window",
+            "gap after a full window",
+        ]
+        .map(|class| counters.count("program input", class))
+    }
+
+    #[test]
+    fn eight_numbers_without_a_gap_are_a_full_window() {
+        assert_eq!(met(&[1, 2, 3, 4, 5, 6, 7]), [0, 0, 0]);
+        assert_eq!(met(&[1, 2, 3, 4, 5, 6, 7, 9]), [1, 0, 0]);
+        assert_eq!(met(&[1, 2, 3, 4, 5, 6, 7, 8]), [0, 1, 0]);
+        assert_eq!(met(&[1, 2, 3, 4, 5, 6, 7, 8, 15]), [1, 1, 1]);
+        // Nothing of the full window is left.
+        assert_eq!(met(&[1, 2, 3, 4, 5, 6, 7, 8, 16]), [1, 1, 0]);
+    }
 }

@@ -3,40 +3,18 @@
 use std::collections::BTreeMap;
 
 use super::counters::Counters;
+use super::outcomes::Outcome;
 use super::products::check_product;
 use super::samples::count_samples;
-use super::twins::check_twin;
-use crate::acceptance::{accepted_samples, AcceptedSamples};
-use crate::calibrator::Calibrator;
+use super::twins::checked_twin;
 use crate::generator::lists::{feed_list, Feed, FeedList};
 use crate::generator::random::case_seed;
-use crate::product::LENGTH;
-use crate::table::open;
-use crate::window::window_records;
-
-/// What one feed left: the answer, 0 or the number of the refusal, and the buffer.
-#[derive(Clone, Debug, PartialEq, Eq)]
-pub struct Outcome {
-    pub answer: u8,
-    pub buffer: Vec<u8>,
-}
-
-/// Feeds a list to a fresh calibrator.
-pub fn outcomes(list: &FeedList) -> Vec<Outcome> {
-    let table = open(&list.table).expect("a list has an accepted table");
-    let mut calibrator = Calibrator::fresh(table);
-    let mut outcomes = Vec::new();
-    for feed in &list.feeds {
-        let mut buffer = feed.buffer.clone();
-        let fed = calibrator.feed(&feed.record, &mut buffer);
-        calibrator = fed.calibrator;
-        outcomes.push(Outcome {
-            answer: fed.answer.err().unwrap_or(0),
-            buffer,
-        });
-    }
-    outcomes
-}
+use crate::generator::twins::alike_twin;
+use crate::second::acceptance::{accepted_samples, AcceptedSamples};
+use crate::second::calibrator::Calibrator;
+use crate::second::product::LENGTH;
+use crate::second::table::open;
+use crate::second::window::window_records;
 
 /// Which of 4 to 7 apply to a feed, each stated for itself where it can be.
 fn refusals(feed: &Feed, last: Option<u32>) -> Vec<u8> {
@@ -113,7 +91,7 @@ fn count_feed(feed: &Feed, last: Option<u32>, all: &[u8], counters: &mut Counter
 }
 
 /// Feeds a list and checks every feed.
-fn check_feeds(list: &FeedList, counters: &mut Counters) -> Result<Vec<Outcome>, String> {
+pub fn checked_outcomes(list: &FeedList, counters: &mut Counters) -> Result<Vec<Outcome>, String> {
     let table = open(&list.table).expect("a list has an accepted table");
     let mut calibrator = Calibrator::fresh(table.clone());
     let mut accepted: BTreeMap<u32, AcceptedSamples> = BTreeMap::new();
@@ -173,6 +151,7 @@ fn check_feeds(list: &FeedList, counters: &mut Counters) -> Result<Vec<Outcome>,
 /// Checks the list of a seed and its twin.
 pub fn check_list(seed: u64, counters: &mut Counters) -> Result<(), String> {
     let list = feed_list(seed);
-    let outcomes = check_feeds(&list, counters)?;
-    check_twin(&list, &outcomes, case_seed(seed, 1), counters)
+    let outcomes = checked_outcomes(&list, counters)?;
+    let twin = alike_twin(&list, case_seed(seed, 1));
+    checked_twin(&list, &outcomes, &twin, counters).map(drop)
 }

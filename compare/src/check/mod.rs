@@ -14,6 +14,8 @@ pub mod samples;
 
 pub mod products;
 
+pub mod outcomes;
+
 pub mod lists;
 
 pub mod twins;

@@ -4,12 +4,12 @@ use std::collections::BTreeMap;
 
 use super::counters::Counters;
 use super::rules;
-use crate::acceptance::AcceptedSamples;
-use crate::bytes::layout_is_right;
-use crate::product::{flag_of, number_of, scene_of, summary_of, LAYOUT};
-use crate::record::{ScanRecord, SCENES};
-use crate::rounding::r;
-use crate::table::{Table, CHANNELS};
+use crate::second::acceptance::AcceptedSamples;
+use crate::second::bytes::layout_is_right;
+use crate::second::product::{flag_of, number_of, scene_of, summary_of, LAYOUT};
+use crate::second::record::{ScanRecord, SCENES};
+use crate::second::rounding::r;
+use crate::second::table::{Table, CHANNELS};
 
 /// What is checked of the scenes of one channel.
 struct ChannelCheck<'a> {
@@ -217,16 +217,16 @@ pub fn check_product(
 #[cfg(test)]
 mod tests {
     use super::*;
-    use crate::acceptance::accepted_samples;
     use crate::generator::records::RecordValues;
     use crate::generator::tables::TableValues;
-    use crate::table::open;
+    use crate::second::acceptance::accepted_samples;
+    use crate::second::table::open;
 
     /// The first bench product, with some bytes changed, checked again.
     fn checked(change: impl Fn(&mut [u8])) -> Result<(), String> {
         let table = open(&TableValues::bench().encode()).unwrap();
         let record = ScanRecord::read(&RecordValues::bench().encode()).unwrap();
-        let mut product = crate::product::product(&table, &[record.clone()]);
+        let mut product = crate::second::product::product(&table, &[record.clone()]);
         change(&mut product);
         let accepted = BTreeMap::from([(7, accepted_samples(&table, &record))]);
         check_product(&table, &record, &product, &accepted, &mut Counters::new())

@@ -10,7 +10,8 @@ use super::tables::{check_neighbours, check_table};
 use super::thermometers::check_thermometer;
 use crate::generator::random::case_seed;
 
-type Check = fn(u64, &mut Counters) -> Result<(), String>;
+/// Runs the case of a seed and counts what it met.
+pub type Check = fn(u64, &mut Counters) -> Result<(), String>;
 
 /// The kinds of cases, by the name that `--case` takes.
 pub const KINDS: [(&str, Check); 6] = [
@@ -66,6 +67,15 @@ fn fed(counters: &Counters) -> u64 {
     counts.iter().sum()
 }
 
+/// The seed of a case. The first neighbours are those of the bench table.
+pub fn seed_of_case(kind: &str, master: u64, index: u64) -> u64 {
+    if kind == "neighbours" && index == 0 {
+        0
+    } else {
+        case_seed(master, index)
+    }
+}
+
 /// Runs all kinds of cases under one seed until lists have at least this many feeds.
 pub fn run_all(seed: u64, feeds: u64, counters: &mut Counters) -> Result<(), Failure> {
     for (number, (kind, check)) in KINDS.into_iter().enumerate() {
@@ -75,21 +85,14 @@ pub fn run_all(seed: u64, feeds: u64, counters: &mut Counters) -> Result<(), Fai
             "neighbours" => feeds / 1_000 + 1,
             "table" => feeds / 3 + 1,
             "thermometer" => 5 * feeds,
-            "listing" => feeds / 20 + 1,
+            "listing" => feeds / 40 + 1,
             _ => u64::MAX,
         };
         for index in 0..cases {
             if kind == "list" && fed(counters) >= feeds {
                 break;
             }
-            // The first neighbours are those of the bench table.
-            let first_neighbours = kind == "neighbours" && index == 0;
-            let seed = if first_neighbours {
-                0
-            } else {
-                case_seed(master, index)
-            };
-            run_case(kind, check, seed, counters)?;
+            run_case(kind, check, seed_of_case(kind, master, index), counters)?;
         }
     }
     Ok(())

@@ -1,9 +1,9 @@
 //! Counts at which edges the samples of accepted records stand.
 
 use super::counters::Counters;
-use crate::acceptance::{good_counts, target_readings, AcceptedSamples};
-use crate::record::ScanRecord;
-use crate::table::{Limits, Side, Table, CHANNELS, SIDES, TARGETS};
+use crate::second::acceptance::{good_counts, target_readings, AcceptedSamples};
+use crate::second::record::ScanRecord;
+use crate::second::table::{Limits, Side, Table, CHANNELS, SIDES, TARGETS};
 
 /// Counts which edges the samples of an accepted record stand at.
 pub fn count_samples(
@@ -31,8 +31,8 @@ pub fn count_samples(
             match differing {
                 0 => {}
                 1 => counters.met("target readings", "one rival differs"),
-                2 => counters.met("target readings", "two rivals differ"),
-                _ => counters.met("target readings", "three or more"),
+                2 => counters.met("target readings", "dropped by two rivals"),
+                _ => counters.met("target readings", "dropped by more"),
             }
         }
         count_differences(&passed, limits, counters, "target readings");
@@ -105,11 +105,13 @@ pub fn count_samples(
             let lowest = good[0].iter().map(|one| one.count as i128).min().unwrap();
             let highest = good[1].iter().map(|one| one.count as i128).max().unwrap();
             let class = match lowest - highest {
-                apart @ -1..=1 => apart.to_string(),
-                apart if apart < 0 => "below -1".to_string(),
-                _ => "above 1".to_string(),
+                -1 => "overlap by 1",
+                0 => "equal",
+                1 => "1 apart",
+                apart if apart < 0 => "overlap by more",
+                _ => "farther apart",
             };
-            counters.met("lowest warm less highest cold", &class);
+            counters.met("warm and cold", class);
         }
         let (warm, cold) = (&samples.warm[channel], &samples.cold[channel]);
         match (warm.is_empty(), cold.is_empty()) {

@@ -1,52 +1,39 @@
 //! Checks of opening tables: planned answers, and the answers stated again at random tables.
 
 use super::counters::Counters;
-use crate::generator::random_tables::{accepted_table, table_bytes};
-use crate::generator::table_neighbours::table_neighbours;
-use crate::generator::tables::TableValues;
-use crate::table::open;
+use crate::generator::random_tables::{seed_neighbours, table_bytes};
+use crate::second::table::open;
 
-fn met(counters: &mut Counters, answer: u8) {
+/// The answer to some bytes, which is the one that a plain look at them gives.
+pub fn checked_answer(bytes: &[u8], counters: &mut Counters) -> Result<u8, String> {
+    let answer = open(bytes).err().unwrap_or(0);
+    let expected = plain_answer(bytes);
+    if answer != expected {
+        return Err(format!("table: {answer}, expected {expected}"));
+    }
     let class = match answer {
         0 => "accepted".to_string(),
         number => number.to_string(),
     };
     counters.met("table answer", &class);
-}
-
-fn answer(bytes: &[u8]) -> u8 {
-    open(bytes).err().unwrap_or(0)
+    Ok(answer)
 }
 
 /// Every neighbour of the bench table (seed 0) or of the accepted table of a seed has its
 /// planned answer.
 pub fn check_neighbours(seed: u64, counters: &mut Counters) -> Result<(), String> {
-    let base = if seed == 0 {
-        TableValues::bench()
-    } else {
-        accepted_table(seed)
-    };
-    for neighbour in table_neighbours(&base) {
-        let answer = answer(&neighbour.bytes);
+    for neighbour in seed_neighbours(seed) {
+        let answer = checked_answer(&neighbour.bytes, counters)?;
         if answer != neighbour.answer {
             let (about, planned) = (neighbour.description, neighbour.answer);
             return Err(format!("table, {about}: {answer}, planned {planned}"));
         }
-        met(counters, answer);
     }
     Ok(())
 }
 
-/// The answer of some table is the one that a plain look at the bytes gives.
 pub fn check_table(seed: u64, counters: &mut Counters) -> Result<(), String> {
-    let bytes = table_bytes(seed);
-    let answer = answer(&bytes);
-    let expected = plain_answer(&bytes);
-    if answer != expected {
-        return Err(format!("table: {answer}, expected {expected}"));
-    }
-    met(counters, answer);
-    Ok(())
+    checked_answer(&table_bytes(seed), counters).map(drop)
 }
 
 /// 1, 2 and 3 once more, by positions counted by hand from the start of the table.

@@ -1,11 +1,18 @@
 //! Checks of the operation One thermometer: the refusals stated again, and t by F(t) and F(t + 1).
 
 use super::counters::Counters;
-use crate::generator::thermometers::thermometer_input;
-use crate::thermometer::{one_thermometer, resistance_ratio, HIGHEST_T, LOWEST_T};
+use crate::generator::thermometers::{thermometer_input, ThermometerInput};
+use crate::second::thermometer::{one_thermometer, resistance_ratio, HIGHEST_T, LOWEST_T};
 
 pub fn check_thermometer(seed: u64, counters: &mut Counters) -> Result<(), String> {
-    let input = thermometer_input(seed);
+    checked_thermometer(&thermometer_input(seed), counters).map(drop)
+}
+
+/// The answer to one input: t, or the number of the refusal.
+pub fn checked_thermometer(
+    input: &ThermometerInput,
+    counters: &mut Counters,
+) -> Result<Result<i128, u8>, String> {
     let coefficients = input.coefficients();
     let answer = one_thermometer(&input.reading(), &coefficients);
     let f = |t: i128| resistance_ratio(t, &coefficients);
@@ -93,5 +100,5 @@ pub fn check_thermometer(seed: u64, counters: &mut Counters) -> Result<(), Strin
     if !refused_8 && refused_9 && below_offset {
         met("9 and 10");
     }
-    Ok(())
+    Ok(answer)
 }

@@ -1,14 +1,13 @@
 //! Checks of alike lists: the same products.
 
 use super::counters::Counters;
-use super::lists::{outcomes, Outcome};
-use crate::acceptance::accepted_samples;
-use crate::calibrator::judge;
+use super::outcomes::{outcomes, Outcome};
 use crate::generator::lists::FeedList;
-use crate::generator::twins::alike_twin;
-use crate::product::LENGTH;
-use crate::record::ScanRecord;
-use crate::table::{open, CHANNELS};
+use crate::second::acceptance::accepted_samples;
+use crate::second::calibrator::judge;
+use crate::second::product::LENGTH;
+use crate::second::record::ScanRecord;
+use crate::second::table::{open, CHANNELS};
 
 /// Whether two lists under one table are alike.
 pub fn are_alike(first: &FeedList, second: &FeedList) -> bool {
@@ -57,18 +56,19 @@ fn changed_samples(first: &[u8], second: &[u8]) -> u64 {
     changed
 }
 
-pub fn check_twin(
+/// Feeds the twin of a list, which left this.
+pub fn checked_twin(
     list: &FeedList,
     first: &[Outcome],
-    seed: u64,
+    twin: &FeedList,
     counters: &mut Counters,
-) -> Result<(), String> {
-    let twin = alike_twin(list, seed);
-    if !are_alike(list, &twin) {
+) -> Result<Vec<Outcome>, String> {
+    if !are_alike(list, twin) {
         return Err("the twin is not alike".to_string());
     }
     counters.met("twins", "lists compared");
-    for (index, outcome) in outcomes(&twin).iter().enumerate() {
+    let second = outcomes(twin);
+    for (index, outcome) in second.iter().enumerate() {
         let about = format!("feed {} of the list and its twin", index + 1);
         if outcome.answer != first[index].answer {
             return Err(format!("{about}: answers differ"));
@@ -84,7 +84,7 @@ pub fn check_twin(
         let changed = changed_samples(&list.feeds[index].record, &twin.feeds[index].record);
         counters.met_times("twins", "samples changed", changed);
     }
-    Ok(())
+    Ok(second)
 }
 
 #[cfg(test)]

@@ -3,7 +3,7 @@
 
 use super::random::{to_u16, Random};
 use super::tables::TableValues;
-use crate::table::Side;
+use crate::second::table::Side;
 
 /// How the counts of one channel run over a list.
 #[derive(Clone, Copy, Debug)]

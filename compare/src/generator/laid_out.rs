@@ -1,9 +1,22 @@
 //! Lists of feeds laid out one after the other, whole or with something missing.
 
-use super::lists::feed_list;
+use super::lists::{feed_list, FeedList};
 use super::random::Random;
 use super::random_tables::table_bytes;
-use crate::station::LaidOut;
+use crate::second::station::LaidOut;
+
+/// A list laid out. The answers are filled with a number that no feed is answered with.
+pub fn lay_out(list: &FeedList) -> LaidOut {
+    let feeds = &list.feeds;
+    LaidOut {
+        table: list.table.clone(),
+        records: feeds.iter().flat_map(|feed| feed.record.clone()).collect(),
+        record_lengths: feeds.iter().map(|feed| feed.record.len() as u32).collect(),
+        buffers: feeds.iter().flat_map(|feed| feed.buffer.clone()).collect(),
+        buffer_lengths: feeds.iter().map(|feed| feed.buffer.len() as u32).collect(),
+        answers: vec![77; feeds.len()],
+    }
+}
 
 /// Takes some from the end.
 fn cut<T>(random: &mut Random, values: &mut Vec<T>) {
@@ -25,7 +38,7 @@ fn change_one(random: &mut Random, lengths: &mut [u32]) {
 
 pub fn laid_out(seed: u64) -> LaidOut {
     let mut random = Random::new(seed);
-    let mut list = LaidOut::of(&feed_list(random.next()));
+    let mut list = lay_out(&feed_list(random.next()));
     match random.below(12) {
         0 => list.table = table_bytes(random.next()),
         1 => cut(&mut random, &mut list.table),
@@ -46,16 +59,4 @@ pub fn laid_out(seed: u64) -> LaidOut {
         _ => {}
     }
     list
-}
-
-/// Nothing in any of the six.
-pub fn empty() -> LaidOut {
-    LaidOut {
-        table: Vec::new(),
-        records: Vec::new(),
-        record_lengths: Vec::new(),
-        buffers: Vec::new(),
-        buffer_lengths: Vec::new(),
-        answers: Vec::new(),
-    }
 }

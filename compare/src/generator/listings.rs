@@ -1,8 +1,8 @@
-//! Inputs of the listing program: a table file or none, and a standard input.
+//! Inputs of the programs: a table file or none, and a standard input.
 
-use super::lists::feed_list;
 use super::random::Random;
 use super::random_tables::table_bytes;
+use super::streams::record_stream;
 
 #[derive(Clone, Debug)]
 pub struct ListingInput {
@@ -11,28 +11,23 @@ pub struct ListingInput {
     pub input: Vec<u8>,
 }
 
+/// Mostly a stream under its own table, with or without a part of one more record.
 pub fn listing_input(seed: u64) -> ListingInput {
     let mut random = Random::new(seed);
-    let list = feed_list(random.next());
+    let stream = record_stream(random.next());
+    let last = stream.records[stream.records.len() - 1].clone();
     let table = match random.below(10) {
         0 => None,
         1 => Some(Vec::new()),
         2 => Some(table_bytes(random.next())),
-        _ => Some(list.table),
+        _ => Some(stream.table),
     };
-    let mut input = Vec::new();
-    let records = random.below(5);
-    for feed in list.feeds.iter().take(records) {
-        // A record of another length would move all those behind it.
-        if feed.record.len() == 4_629 {
-            input.extend(&feed.record);
-        }
-    }
     let any = random.between(1, 4_628) as usize;
     let rest = random.pick(&[0, 0, 1, 4_628, any]);
-    match list.feeds.last() {
-        Some(feed) if feed.record.len() >= rest => input.extend(&feed.record[..rest]),
-        _ => input.extend(random.bytes(rest)),
-    }
+    let input = match random.below(12) {
+        0 => Vec::new(),
+        1 => last[..rest].to_vec(),
+        _ => [&stream.records.concat(), &last[..rest]].concat(),
+    };
     ListingInput { table, input }
 }

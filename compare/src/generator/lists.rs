@@ -7,11 +7,11 @@ use super::records::{record_neighbours, RecordValues};
 use super::scenes::earth_counts;
 use super::tables::TableValues;
 use super::thermometers::{plan_thermometers, thermometer_counts, ThermometerPlan};
-use crate::calibrator::judge;
-use crate::product::LENGTH;
-use crate::record::ScanRecord;
-use crate::table::{open, Table};
-use crate::window::{channel_sums, window};
+use crate::second::calibrator::judge;
+use crate::second::product::LENGTH;
+use crate::second::record::ScanRecord;
+use crate::second::table::{open, Table};
+use crate::second::window::{channel_sums, window};
 
 /// One feed: any bytes as its record, and a buffer as it is before.
 #[derive(Clone, Debug)]
@@ -28,12 +28,12 @@ pub struct FeedList {
 }
 
 /// What stays the same over a list.
-struct Plan {
-    table: TableValues,
+pub(super) struct Plan {
+    pub(super) table: TableValues,
     thermometers: ThermometerPlan,
     channels: Vec<ChannelPlan>,
     /// One feed in this many has a wrong record, a wrong number or a short buffer, each.
-    trouble: usize,
+    pub(super) trouble: usize,
 }
 
 /// Makes sure that the weight of age 0 alone is 1 in a hundred.
@@ -44,7 +44,7 @@ fn current_scan_suffices(weights: &mut [u8; 8]) {
     }
 }
 
-fn plan(random: &mut Random) -> Plan {
+pub(super) fn plan(random: &mut Random) -> Plan {
     let mut table = random_table(random);
     let thermometers = plan_thermometers(random, &mut table);
     // Mostly the current scan is enough, so that what comes after the weights decides.
@@ -86,7 +86,7 @@ fn plan(random: &mut Random) -> Plan {
     }
 }
 
-fn first_number(random: &mut Random) -> u32 {
+pub(super) fn first_number(random: &mut Random) -> u32 {
     let any = random.next() as u32;
     let last_of_all = u32::MAX - random.below(30) as u32;
     if random.once_in(20) {
@@ -95,7 +95,7 @@ fn first_number(random: &mut Random) -> u32 {
     random.pick(&[0, 0, 1, 7, any, last_of_all])
 }
 
-fn next_number(random: &mut Random, last: u32, trouble: usize) -> u32 {
+pub(super) fn next_number(random: &mut Random, last: u32, trouble: usize) -> u32 {
     if random.once_in(trouble) {
         let lower = last.saturating_sub(random.between(1, 9) as u32);
         let higher = random.between(last as i64, u32::MAX as i64) as u32;
@@ -172,13 +172,40 @@ fn wrong_record(random: &mut Random, record: &RecordValues) -> Vec<u8> {
     random.pick(&record_neighbours(record)).bytes
 }
 
+/// A record by the plan; one in `trouble` is wrong.
+pub(super) fn planned_bytes(
+    random: &mut Random,
+    plan: &Plan,
+    table: &Table,
+    roll: &[ScanRecord],
+    number: u32,
+) -> Vec<u8> {
+    let record = planned_record(random, plan, table, roll, number);
+    if random.once_in(plan.trouble) {
+        return wrong_record(random, &record);
+    }
+    record.encode()
+}
+
+/// Adds an accepted record to the roll, and says whether it is one. Only the last eight matter to what
+/// is planned next.
+pub(super) fn join(roll: &mut Vec<ScanRecord>, record: &[u8], buffer_length: usize) -> bool {
+    let Ok(joined) = judge(roll, record, buffer_length) else {
+        return false;
+    };
+    roll.push(joined);
+    if roll.len() > 8 {
+        roll.remove(0);
+    }
+    true
+}
+
 /// A list of some dozens of feeds.
 pub fn feed_list(seed: u64) -> FeedList {
     let mut random = Random::new(seed);
     let plan = plan(&mut random);
     let table_bytes = plan.table.encode();
     let table = open(&table_bytes).expect("a planned table is accepted");
-    // Only the last records matter to what is planned next.
     let mut roll: Vec<ScanRecord> = Vec::new();
     let mut feeds = Vec::new();
     for _ in 0..random.between(3, 30) {
@@ -186,22 +213,10 @@ pub fn feed_list(seed: u64) -> FeedList {
             None => first_number(&mut random),
             Some(last) => next_number(&mut random, last.number(), plan.trouble),
         };
-        let record = planned_record(&mut random, &plan, &table, &roll, number);
-        let mut bytes = record.encode();
-        if random.once_in(plan.trouble) {
-            bytes = wrong_record(&mut random, &record);
-        }
+        let record = planned_bytes(&mut random, &plan, &table, &roll, number);
         let buffer = random_buffer(&mut random, plan.trouble);
-        if let Ok(joined) = judge(&roll, &bytes, buffer.len()) {
-            roll.push(joined);
-            if roll.len() > 8 {
-                roll.remove(0);
-            }
-        }
-        feeds.push(Feed {
-            record: bytes,
-            buffer,
-        });
+        join(&mut roll, &record, buffer.len());
+        feeds.push(Feed { record, buffer });
     }
     FeedList {
         table: table_bytes,

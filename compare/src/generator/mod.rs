@@ -1,12 +1,16 @@
 //! Makers of inputs that aim at edges. Every maker takes a seed and gives the same for the same.
 //!
 //! The encoders share no code with the parsers. Where an edge depends on the rules, such as a
-//! count at which a scene turns outside, this crate's rules are asked where it lies; what is
+//! count at which a scene turns outside, the rules of `second` are asked where it lies; what is
 //! made are inputs only, so a wrong rule would at most miss its aim.
 
 pub mod random;
 
+pub mod layouts;
+
 pub mod numbers;
+
+pub mod neighbour;
 
 pub mod tables;
 
@@ -26,15 +30,8 @@ pub mod lists;
 
 pub mod twins;
 
+pub mod streams;
+
 pub mod listings;
 
 pub mod laid_out;
-
-/// An input close to another one, and the answer planned for it: 0 for accepted, or the number
-/// of the refusal.
-#[derive(Clone, Debug)]
-pub struct Neighbour {
-    pub description: String,
-    pub bytes: Vec<u8>,
-    pub answer: u8,
-}

@@ -1,7 +1,7 @@
 //! Edge inputs for the smallest parts: divisions, readers of numbers, fields and layouts.
 
+use super::layouts::{head_positions, PRODUCT, RECORD, TABLE};
 use super::random::Random;
-use crate::{product, record, table};
 
 /// A whole number of 64 bits near an end, near 0, near a power of two, or anywhere.
 fn edge_number(random: &mut Random) -> i64 {
@@ -98,17 +98,6 @@ fn encode_layout(random: &mut Random, layout: &[(u8, usize)]) -> Vec<u8> {
     bytes
 }
 
-/// The positions of all bytes of tags and lengths.
-pub fn head_positions(layout: &[(u8, usize)]) -> Vec<usize> {
-    let mut positions = Vec::new();
-    let mut at = 0;
-    for (_, length) in layout {
-        positions.extend([at, at + 1, at + 2]);
-        at += 3 + length;
-    }
-    positions
-}
-
 /// One field among other bytes, whole or cut, with the tag or a length byte wrong by one.
 pub fn field_case(seed: u64) -> FieldCase {
     let mut random = Random::new(seed);
@@ -148,9 +137,9 @@ pub fn field_case(seed: u64) -> FieldCase {
 pub fn layout_case(seed: u64) -> (Vec<u8>, Vec<(u8, usize)>) {
     let mut random = Random::new(seed);
     let layout = match random.below(4) {
-        0 => table::LAYOUT.to_vec(),
-        1 => record::LAYOUT.to_vec(),
-        2 => product::LAYOUT.to_vec(),
+        0 => TABLE.to_vec(),
+        1 => RECORD.to_vec(),
+        2 => PRODUCT.to_vec(),
         _ => (0..random.below(4))
             .map(|_| (random.next() as u8, random.below(300)))
             .collect(),

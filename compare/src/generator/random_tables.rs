@@ -1,5 +1,6 @@
 //! Accepted tables at random, and bytes that may be a table.
 
+use super::neighbour::Neighbour;
 use super::random::Random;
 use super::table_neighbours::table_neighbours;
 use super::tables::{TableValues, ThermometerValues};
@@ -234,6 +235,16 @@ pub fn table_bytes(seed: u64) -> Vec<u8> {
     }
 }
 
+/// Every neighbour of the bench table (seed 0) or of the accepted table of a seed.
+pub fn seed_neighbours(seed: u64) -> Vec<Neighbour> {
+    let base = if seed == 0 {
+        TableValues::bench()
+    } else {
+        accepted_table(seed)
+    };
+    table_neighbours(&base)
+}
+
 #[cfg(test)]
 mod tests {
     use super::*;
@@ -241,7 +252,7 @@ mod tests {
     #[test]
     fn random_tables_are_accepted() {
         for seed in 0..2_000 {
-            let opened = crate::table::open(&accepted_table(seed).encode());
+            let opened = crate::second::table::open(&accepted_table(seed).encode());
             assert!(opened.is_ok(), "seed {seed}");
         }
     }
@@ -250,7 +261,9 @@ mod tests {
     fn neighbours_of_random_tables_have_their_planned_answers() {
         for seed in 0..3 {
             for neighbour in table_neighbours(&accepted_table(seed)) {
-                let answer = crate::table::open(&neighbour.bytes).err().unwrap_or(0);
+                let answer = crate::second::table::open(&neighbour.bytes)
+                    .err()
+                    .unwrap_or(0);
                 assert_eq!(answer, neighbour.answer, "{}", neighbour.description);
             }
         }

@@ -1,7 +1,7 @@
 //! Scan records: values with an encoder, and every neighbour of a record.
 
-use super::numbers::head_positions;
-use super::Neighbour;
+use super::layouts::{head_positions, RECORD};
+use super::neighbour::Neighbour;
 
 #[derive(Clone, Debug)]
 pub struct RecordValues {
@@ -93,7 +93,7 @@ pub fn record_neighbours(base: &RecordValues) -> Vec<Neighbour> {
         };
         push(format!("number {number}"), other.encode(), 0);
     }
-    for position in head_positions(&crate::record::LAYOUT) {
+    for position in head_positions(&RECORD) {
         for change in [1, 255] {
             let mut bytes = right.clone();
             bytes[position] = bytes[position].wrapping_add(change);

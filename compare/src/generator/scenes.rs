@@ -1,8 +1,8 @@
 //! Earth counts: x at 0 and 1.25 and one count beyond, at quarters, and anywhere.
 
 use super::random::{to_u16, Random};
-use crate::rounding::floor;
-use crate::window::ChannelSums;
+use crate::second::rounding::floor;
+use crate::second::window::ChannelSums;
 
 /// The counts around which a channel's scenes turn, as far as the window has both sides.
 fn turning_counts(sums: &ChannelSums) -> Vec<i128> {

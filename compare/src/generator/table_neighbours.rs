@@ -1,8 +1,8 @@
 //! Every neighbour of a table.
 
-use super::numbers::head_positions;
+use super::layouts::{head_positions, TABLE};
+use super::neighbour::Neighbour;
 use super::tables::TableValues;
-use super::Neighbour;
 
 /// A value with a range of its own.
 struct Ranged {
@@ -256,7 +256,7 @@ pub fn table_neighbours(base: &TableValues) -> Vec<Neighbour> {
     }
 
     let right = base.encode();
-    for position in head_positions(&crate::table::LAYOUT) {
+    for position in head_positions(&TABLE) {
         for change in [1, 255] {
             let mut bytes = right.clone();
             bytes[position] = bytes[position].wrapping_add(change);

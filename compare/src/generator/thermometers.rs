@@ -3,8 +3,8 @@
 use super::random::{to_u16, Random};
 use super::random_tables::random_table;
 use super::tables::{TableValues, ThermometerValues};
-use crate::rounding::floor;
-use crate::thermometer::{
+use crate::second::rounding::floor;
+use crate::second::thermometer::{
     measured, resistance_ratio, rule, Coefficients, Reading, HIGHEST_T, LOWEST_T,
 };
 

@@ -3,10 +3,10 @@
 use super::lists::{long_buffer, random_buffer, short_buffer, Feed, FeedList};
 use super::random::Random;
 use super::records::RecordValues;
-use crate::acceptance::accepted_samples;
-use crate::calibrator::judge;
-use crate::record::ScanRecord;
-use crate::table::{open, Table};
+use crate::second::acceptance::accepted_samples;
+use crate::second::calibrator::judge;
+use crate::second::record::ScanRecord;
+use crate::second::table::{open, Table};
 
 /// The same record with rejected samples changed to other rejected ones: each change is kept only
 /// if the accepted samples stay.

@@ -1,7 +1,7 @@
 //! The table, 741 bytes, and the operation Opening a table.
 
-use crate::bytes::{i16_at, i32_at, layout_is_right, layout_length, u16_at, u32_at, value};
-use crate::thermometer::{inside, Coefficients, HIGHEST_T, LOWEST_T, RESISTANCE_RANGE};
+use super::bytes::{i16_at, i32_at, layout_is_right, layout_length, u16_at, u32_at, value};
+use super::thermometer::{inside, Coefficients, HIGHEST_T, LOWEST_T, RESISTANCE_RANGE};
 
 pub const AGES: usize = 8;
 pub const THERMOMETERS: usize = 15;

@@ -1,10 +1,10 @@
 //! Listing program: the text printed for a table file and a standard input.
 
-use crate::bytes::layout_length;
-use crate::calibrator::Calibrator;
-use crate::product::{flag_of, number_of, summary_of, LENGTH};
-use crate::record::LAYOUT;
-use crate::table::{open, CHANNELS};
+use super::bytes::layout_length;
+use super::calibrator::Calibrator;
+use super::product::{flag_of, number_of, summary_of, LENGTH};
+use super::record::LAYOUT;
+use super::table::{open, CHANNELS};
 
 /// The line of an accepted feed's product.
 fn scan_line(product: &[u8]) -> String {

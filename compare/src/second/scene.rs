@@ -1,8 +1,8 @@
 //! Scenes: from an earth count to a brightness temperature or a mark.
 
-use crate::rounding::{r, Fraction};
-use crate::table::Table;
-use crate::window::{cold_temperature, unrounded_warm_temperature, warm_temperature, ChannelSums};
+use super::rounding::{r, Fraction};
+use super::table::Table;
+use super::window::{cold_temperature, unrounded_warm_temperature, warm_temperature, ChannelSums};
 
 /// A scene: a temperature in kelvin or a mark.
 #[derive(Clone, Copy, Debug, PartialEq)]
@@ -139,9 +139,9 @@ mod tests {
     use super::*;
     use crate::generator::records::RecordValues;
     use crate::generator::tables::TableValues;
-    use crate::record::ScanRecord;
-    use crate::table::open;
-    use crate::window::{channel_sums, window, SideSums, ThermometerSums};
+    use crate::second::record::ScanRecord;
+    use crate::second::table::open;
+    use crate::second::window::{channel_sums, window, SideSums, ThermometerSums};
 
     fn bench_scene(count: u16) -> Scene {
         let table = open(&TableValues::bench().encode()).unwrap();

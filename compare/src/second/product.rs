@@ -1,10 +1,10 @@
 //! The product, 8,706 bytes.
 
-use crate::bytes::{u16_at, u32_at, value};
-use crate::record::{ScanRecord, SCENES};
-use crate::scene::{scene, Scene};
-use crate::table::{Table, CHANNELS};
-use crate::window::{channel_sums, flag, window};
+use super::bytes::{u16_at, u32_at, value};
+use super::record::{ScanRecord, SCENES};
+use super::scene::{scene, Scene};
+use super::table::{Table, CHANNELS};
+use super::window::{channel_sums, flag, window};
 
 pub const LENGTH: usize = 8_706;
 
@@ -108,10 +108,10 @@ pub fn summary_of(product: &[u8], channel: usize) -> Summary {
 #[cfg(test)]
 mod tests {
     use super::*;
-    use crate::bytes::{layout_is_right, layout_length};
     use crate::generator::records::RecordValues;
     use crate::generator::tables::TableValues;
-    use crate::table::open;
+    use crate::second::bytes::{layout_is_right, layout_length};
+    use crate::second::table::open;
 
     fn bench_product(record: &RecordValues) -> Vec<u8> {
         let table = open(&TableValues::bench().encode()).unwrap();

@@ -1,6 +1,6 @@
 //! Thermometer rule, and the operation One thermometer.
 
-use crate::rounding::floor;
+use super::rounding::floor;
 
 /// The ends of the range of t, in units of °C; T_low and T_upp have the same.
 pub const LOWEST_T: i128 = -245_760;

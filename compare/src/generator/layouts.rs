@@ -1,0 +1,18 @@
+//! The fields of table, record and product, tag and length, stated apart from the parsers.
+
+pub const TABLE: [(u8, usize); 3] = [(0x10, 37), (0x11, 255), (0x12, 440)];
+
+pub const RECORD: [(u8, usize); 5] = [(1, 4), (2, 34), (3, 176), (4, 176), (5, 4_224)];
+
+pub const PRODUCT: [(u8, usize); 4] = [(0x20, 4), (0x21, 22), (0x22, 8_448), (0x23, 220)];
+
+/// The positions of all bytes of tags and lengths.
+pub fn head_positions(layout: &[(u8, usize)]) -> Vec<usize> {
+    let mut positions = Vec::new();
+    let mut at = 0;
+    for (_, length) in layout {
+        positions.extend([at, at + 1, at + 2]);
+        at += 3 + length;
+    }
+    positions
+}
