@@ -7,6 +7,7 @@ use std::path::Path;
 use std::process::{Command, Stdio};
 use std::ptr::{null, null_mut};
 use std::sync::atomic::{AtomicU64, Ordering};
+use std::thread::{available_parallelism, scope};
 
 use crate::against;
 use crate::baseline::Constants;
@@ -310,10 +311,14 @@ fn feeds(list: &FeedList) -> Vec<Outcome> {
     outcomes
 }
 
+/// How many runs of the programs were begun.
+static RUNS: AtomicU64 = AtomicU64::new(0);
+
 /// What a proved program writes to standard output and to standard error, run in a folder of its own.
 fn run_program(name: &str, table: Option<&[u8]>, input: &[u8]) -> (Vec<u8>, String) {
     let program = Path::new(env!("CARGO_MANIFEST_DIR")).join(format!("../target/bin/{name}"));
-    let folder = std::env::temp_dir().join(format!("{name}-{}", std::process::id()));
+    let run = RUNS.fetch_add(1, Ordering::Relaxed);
+    let folder = std::env::temp_dir().join(format!("{name}-{}-{run}", std::process::id()));
     std::fs::create_dir_all(&folder).expect("a temporary folder");
     let file = folder.join("table.bin");
     match table {
@@ -410,18 +415,47 @@ pub const KINDS: [(&str, Check, u64); 14] = [
     ),
 ];
 
-/// Runs every comparison; the first difference is the error, with the command that repeats it.
+/// Runs the cases `first`, `first + step` and so on of a kind, and counts what they met.
+fn run_cases(
+    (kind, comparison): (&str, Check),
+    master: u64,
+    cases: u64,
+    (first, step): (u64, usize),
+) -> Result<Counters, String> {
+    let mut met = Counters::new();
+    for index in (first..cases).step_by(step) {
+        run_case(
+            kind,
+            comparison,
+            seed_of_case(kind, master, index),
+            &mut met,
+        )?;
+    }
+    Ok(met)
+}
+
+/// Runs every comparison, the cases of a kind side by side; a difference is the error, with the command that
+/// repeats it.
 pub fn run(seed: u64, thousands: u64, counters: &mut Counters) -> Result<(), String> {
+    let workers = available_parallelism().map_or(1, usize::from);
     for (number, (kind, comparison, share)) in KINDS.into_iter().enumerate() {
         let master = case_seed(seed, number as u64);
         let cases = share * thousands;
-        for index in 0..cases {
-            run_case(
-                kind,
-                comparison,
-                seed_of_case(kind, master, index),
-                counters,
-            )?;
+        let met: Result<Vec<Counters>, String> = scope(|threads| {
+            let started: Vec<_> = (0..workers as u64)
+                .map(|first| {
+                    threads.spawn(move || {
+                        run_cases((kind, comparison), master, cases, (first, workers))
+                    })
+                })
+                .collect();
+            let ended = started.into_iter().map(|thread| thread.join());
+            ended
+                .map(|result| result.expect("no case panics"))
+                .collect()
+        });
+        for one in met? {
+            counters.add(&one);
         }
         println!("proved {kind}: {cases} cases agree");
     }

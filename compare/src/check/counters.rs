@@ -172,6 +172,13 @@ impl Counters {
         *self.counts.entry((group, class)).or_insert(0) += times;
     }
 
+    /// Counts all that another has met.
+    pub fn add(&mut self, other: &Counters) {
+        for (class, times) in &other.counts {
+            *self.counts.entry(*class).or_insert(0) += times;
+        }
+    }
+
     pub fn count(&self, group: &'static str, class: &'static str) -> u64 {
         self.counts.get(&(group, class)).copied().unwrap_or(0)
     }
@@ -216,5 +223,17 @@ mod tests {
         assert_eq!(counters.missing().len(), all - 1);
         assert!(!counters.missing().contains(&"flag: 3".to_string()));
         assert_eq!(counters.lines().len(), CLASSES.len());
+    }
+
+    #[test]
+    fn what_another_met_is_added() {
+        let mut counters = Counters::new();
+        counters.met("flag", "3");
+        let mut other = Counters::new();
+        other.met_times("flag", "3", 2);
+        other.met("flag", "4");
+        counters.add(&other);
+        assert_eq!(counters.count("flag", "3"), 3);
+        assert_eq!(counters.count("flag", "4"), 1);
     }
 }
