@@ -1,11 +1,3 @@
 pub mod Refusals
-pub mod Roll
-pub mod Samples
-pub mod Moments
 pub mod Feeding
-pub mod Promise
-pub mod Restart
-pub mod FeedList
 pub mod Steps
-pub mod Bench
-pub mod Witnesses

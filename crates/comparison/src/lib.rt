@@ -1,25 +1,29 @@
 // The proved functions as C functions, for compare/ to call.
 ghost use mathlib.Core.Path.{_≡_};
 ghost use mathlib.Core.List.{_++_};
-ghost use Prim.Native.Nat.{_+_, _<_, _≤_};
+ghost use Prim.Native.Nat.{_+_, _*_, _<_, _≤_};
 ghost use lib.IntN.{pos};
 ghost use lib.ListN.{length, drop};
 ghost use lib.Signed.{_<ℤ_};
 ghost use Rattle.integers.specs.Rounding.{floor, r};
 ghost use Rattle.fields.specs.Numbers.{u16At, u32At, i16At, i32At};
 ghost use Rattle.fields.specs.Fields.{headSize, fieldValue, layoutOf, layoutSize, layoutIsRight};
-ghost use mathlib.Core.Bool.{true};
+ghost use Rattle.instrument.specs.Instrument.{channels, thermometers};
 ghost use Rattle.table.specs.Settings.{settingsOf};
-ghost use Rattle.table.specs.Opening.{ages};
-ghost use Rattle.acceptance.specs.Record.{recordLayout};
+ghost use Rattle.table.specs.Opening.{ages, tableSize};
+ghost use Rattle.record.specs.Record.{RightRecord, earthSize};
 ghost use Rattle.acceptance.specs.Accepted.{acceptedSamples};
 ghost use Rattle.acceptance.specs.Kept.{keptScan};
 ghost use Rattle.scene.specs.Ranges.{ConstantsRange};
-ghost use Rattle.product.specs.Product.{productOf, deliveredCount};
+ghost use Rattle.product.specs.Product.{productSize, productOf, deliveredCount};
 ghost use Rattle.comparison.specs.KeptValues.{keptAt};
 ghost use Rattle.comparison.specs.AlikeChannels.{alikeChannels};
+use instrument::CHANNELS;
+use scene::Channel;
 use scene::Constants;
-use window::Channel;
+
+// How many values a scan keeps of both sides.
+const SIDES: usize = 2 * CHANNELS;
 
 #[no_mangle]
 pub extern "C" fn compared_floor_div(a: i64, b: i64) -> i64
@@ -86,30 +90,30 @@ pub extern "C" fn compared_layout(bytes: &[u8], tags: &[u8], sizes: &[u16]) -> b
     fields::layout_is_right(bytes, tags, sizes)
 }
 
-// Value k of what a scan keeps: 22 of the warm sides, 22 of the cold, 15 of the thermometers.
+// Value k of what a scan keeps: the warm sides, the cold, the thermometers.
 #[no_mangle]
 pub extern "C" fn compared_kept(table: &[u8], scan: &[u8], k: usize) -> u32
-    requires { ⌜ (length (now table) ≡ 741) × (length (now scan) ≡ 4629) × (layoutIsRight (now scan) 0 recordLayout ≡ true) × (k < 59) ⌝ }
+    requires { ⌜ (length (now table) ≡ tableSize) × RightRecord (now scan) × (k < 2 * channels + thermometers) ⌝ }
     ensures { λ n. ⌜ n ≡ keptAt (keptScan (acceptedSamples (settingsOf ages (now (table .entry))) (now (scan .entry)))) k ⌝ }
 {
     let kept = acceptance::accepted_scan(table, scan);
     let warm = kept.warm;
     let cold = kept.cold;
     let kelvin = kept.kelvin;
-    if k < 22 {
+    if k < CHANNELS {
         return warm[k];
     }
-    if k < 44 {
-        return cold[k - 22];
+    if k < SIDES {
+        return cold[k - CHANNELS];
     }
-    kelvin[k - 44]
+    kelvin[k - SIDES]
 }
 
-fn alike_channels(constants: Constants) -> [Channel; 22]
+fn alike_channels(constants: Constants) -> [Channel; CHANNELS]
     ensures { λ r. ⌜ r ≡ alikeChannels constants ⌝ }
 {
     let channel = Channel { flag: 0, constants };
-    [channel; 22]
+    [channel; CHANNELS]
 }
 
 // A whole product, of channels with flag 0 that all have these constants: the writer alone, to be timed.
@@ -125,8 +129,8 @@ pub extern "C" fn compared_product(
     base: i64,
     earth: &[u8],
 ) -> u32
-    requires { ⌜ (8706 ≤ length (now buffer)) × (length (now earth) ≡ 4224) × ConstantsRange (record { tc = tc; rise = rise; tnl = tnl; d = d; slope = slope; base = base }) ⌝ }
-    ensures { λ n. ⌜ (n ≡ deliveredCount (alikeChannels (record { tc = tc; rise = rise; tnl = tnl; d = d; slope = slope; base = base })) (now (earth .entry))) × (now (buffer .exit) ≡ productOf number (alikeChannels (record { tc = tc; rise = rise; tnl = tnl; d = d; slope = slope; base = base })) (now (earth .entry)) ++ drop 8706 (now (buffer .entry))) ⌝ }
+    requires { ⌜ (productSize ≤ length (now buffer)) × (length (now earth) ≡ earthSize * channels) × ConstantsRange (record { tc = tc; rise = rise; tnl = tnl; d = d; slope = slope; base = base }) ⌝ }
+    ensures { λ n. ⌜ (n ≡ deliveredCount (alikeChannels (record { tc = tc; rise = rise; tnl = tnl; d = d; slope = slope; base = base })) (now (earth .entry))) × (now (buffer .exit) ≡ productOf number (alikeChannels (record { tc = tc; rise = rise; tnl = tnl; d = d; slope = slope; base = base })) (now (earth .entry)) ++ drop productSize (now (buffer .entry))) ⌝ }
 {
     let constants = Constants {
         tc,

@@ -1,3 +1,4 @@
 pub mod NumberLaws
 pub mod FieldLaws
 pub mod LayoutLaws
+pub mod FieldBytes

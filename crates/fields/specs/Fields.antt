@@ -1,11 +1,11 @@
 -- Document 01, "The table": each field is a one-byte tag, a two-byte length and a value. A layout is the list of the tags and lengths
 -- of the fields that stand one after the other.
 use Prim.Native.Nat.{ℕ, _+_}
-use mathlib.Core.List.{List, [], _∷_}
+use mathlib.Core.List.{List, [], _∷_, _++_}
 use mathlib.Core.Bool.{Bool, true, _&&_, cond}
 use lib.Dec.{eqb}
 use lib.ListN.{getD, take, drop}
-use Rattle.fields.specs.Numbers.{u16At}
+use Rattle.fields.specs.Numbers.{u16At, u16Bytes}
 
 -- a tag and the length of the value
 pub record Field : Type 0 where
@@ -18,6 +18,10 @@ field tag size = record { tag = tag; size = size }
 -- the bytes of a tag and a length, which stand before the value
 abbrev pub headSize : ℕ
 headSize = 3
+
+-- a field as bytes
+abbrev pub fieldBytes : Field → List ℕ → List ℕ
+fieldBytes f value = (f .tag ∷ u16Bytes (f .size)) ++ value
 
 -- whether the bytes from `at` on begin with this field's tag and length
 unfoldable pub fieldIsRight : List ℕ → ℕ → Field → Bool
@@ -43,6 +47,14 @@ unfoldable pub layoutIsRight : List ℕ → ℕ → List Field → Bool
 layoutIsRight s at [] = true
 layoutIsRight s at (f ∷ fs) = fieldIsRight s at f && layoutIsRight s (at + headSize + f .size) fs
 
--- where the value of field k of a layout starts, from the layout's front on
+-- field k of a layout; past the last one that is none
+abbrev pub fieldAt : List Field → ℕ → Field
+fieldAt fs k = getD fs k (field 0 0)
+
+-- where the value of field k starts, from the layout's front on
 abbrev pub valueStart : List Field → ℕ → ℕ
 valueStart fs k = layoutSize (take k fs) + headSize
+
+-- the value of field k of bytes with this layout
+abbrev pub valueIn : List Field → ℕ → List ℕ → List ℕ
+valueIn fs k bytes = take (fieldAt fs k .size) (drop (valueStart fs k) bytes)

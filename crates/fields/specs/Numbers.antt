@@ -1,12 +1,12 @@
 -- Document 01, head: bytes are big-endian, signed fields are two's complement.
--- Each definition reads the number that starts at place i of a list of bytes.
-use Prim.Native.Nat.{ℕ, _+_, _*_}
-use mathlib.Core.List.{List}
+use Prim.Native.Nat.{ℕ, _+_, _*_, _/_, _%_}
+use mathlib.Core.List.{List, [], _∷_}
 use mathlib.Core.Bool.{cond}
 use lib.Dec.{ltb}
 use lib.IntN.{ℤ, pos, _-ℤ_}
 use lib.ListN.{getD}
 
+-- ---- the number that starts at place i of a list of bytes
 abbrev pub u16At : List ℕ → ℕ → ℕ
 u16At s i = 256 * getD s i 0 + getD s (i + 1) 0
 
@@ -22,3 +22,10 @@ i16At s i = signed 0x8000 (u16At s i)
 
 abbrev pub i32At : List ℕ → ℕ → ℤ
 i32At s i = signed 0x8000_0000 (u32At s i)
+
+-- ---- a number as bytes
+abbrev pub u16Bytes : ℕ → List ℕ
+u16Bytes n = n / 256 ∷ n % 256 ∷ []
+
+abbrev pub u32Bytes : ℕ → List ℕ
+u32Bytes n = n / 16777216 ∷ n / 65536 % 256 ∷ n / 256 % 256 ∷ n % 256 ∷ []

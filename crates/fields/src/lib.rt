@@ -1,9 +1,16 @@
-// Document 01's fields: a one-byte tag, a two-byte length, a value; and the big-endian numbers in them.
+// Document 01's fields: a one-byte tag, a two-byte length, a value; and the big-endian numbers in them, read and written.
 ghost use mathlib.Core.Path.{_≡_};
 ghost use Prim.Native.Nat.{_+_, _*_, _<_, _≤_};
+ghost use mathlib.Core.List.{[]};
 ghost use lib.ListN.{length};
-ghost use Rattle.fields.specs.Numbers.{u16At, u32At, i16At, i32At, signed};
-ghost use Rattle.fields.specs.Fields.{fieldIsRight, fieldValue, headSize, layoutOf, layoutSize, layoutIsRight};
+ghost use Rattle.lists.specs.Build.{put};
+ghost use Rattle.fields.specs.Numbers.{u16At, u32At, i16At, i32At, signed, u16Bytes, u32Bytes};
+ghost use Rattle.fields.specs.Fields.{fieldIsRight, fieldValue, headSize, fieldBytes, layoutOf, layoutSize, layoutIsRight};
+
+// The bytes of a tag and a length, which stand before the value.
+pub const HEAD: usize = 3;
+
+// ---- numbers
 
 fn pair(high: u8, low: u8) -> u16
     ensures { λ r. ⌜ r ≡ 256 * high + low ⌝ }
@@ -52,6 +59,8 @@ pub fn i32_at(bytes: &[u8], at: usize) -> i64
     signed_of(u32_at(bytes, at), 0x8000_0000)
 }
 
+// ---- fields
+
 // Whether a field with this tag and this length of its value begins at `at`.
 fn field_is_right(bytes: &[u8], at: usize, tag: u8, size: u16) -> bool
     requires { ⌜ at + headSize ≤ length (now bytes) ⌝ }
@@ -69,7 +78,7 @@ pub fn field(bytes: &[u8], at: usize, tag: u8, size: u16) -> &[u8]
     ensures { λ r. ⌜ now r ≡ fieldValue (now (bytes .entry)) at (record { tag = tag; size = size }) ⌝ }
 {
     if field_is_right(bytes, at, tag, size) {
-        let start = at + 3;
+        let start = at + HEAD;
         let end = start + size as usize;
         return &bytes[start..end];
     }
@@ -88,7 +97,36 @@ pub fn layout_is_right(bytes: &[u8], tags: &[u8], sizes: &[u16]) -> bool
         if !field_is_right(bytes, at, tag, size) {
             return false;
         }
-        at = at + 3 + size as usize;
+        at = at + HEAD + size as usize;
     }
     true
+}
+
+// ---- writing
+
+pub fn put_u16(out: &mut [u8], at: usize, n: u16)
+    requires { ⌜ at + 2 ≤ length (now out) ⌝ }
+    ensures { λ _. ⌜ now (out .exit) ≡ put (now (out .entry)) at (u16Bytes n) ⌝ }
+{
+    out[at] = (n / 256) as u8;
+    out[at + 1] = (n % 256) as u8;
+}
+
+pub fn put_u32(out: &mut [u8], at: usize, n: u32)
+    requires { ⌜ at + 4 ≤ length (now out) ⌝ }
+    ensures { λ _. ⌜ now (out .exit) ≡ put (now (out .entry)) at (u32Bytes n) ⌝ }
+{
+    out[at] = (n / 16777216) as u8;
+    out[at + 1] = (n / 65536 % 256) as u8;
+    out[at + 2] = (n / 256 % 256) as u8;
+    out[at + 3] = (n % 256) as u8;
+}
+
+// A tag and a length.
+pub fn put_head(out: &mut [u8], at: usize, tag: u8, size: u16)
+    requires { ⌜ at + headSize ≤ length (now out) ⌝ }
+    ensures { λ _. ⌜ now (out .exit) ≡ put (now (out .entry)) at (fieldBytes (record { tag = tag; size = size }) []) ⌝ }
+{
+    out[at] = tag;
+    put_u16(out, at + 1, size);
 }

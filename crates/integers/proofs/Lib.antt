@@ -10,3 +10,4 @@ pub mod Floor
 pub mod Nearest
 pub mod Fractions
 pub mod EqualFractions
+pub mod Formal

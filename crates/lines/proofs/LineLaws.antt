@@ -13,10 +13,8 @@ use Rattle.calibrator.specs.declared.Answer.{Answer}
 use Rattle.calibrator.specs.declared.Answer.the-variants.{Refused}
 use Rattle.calibrator.specs.declared.Refusal.{Refusal}
 use Rattle.calibrator.specs.declared.Calibrator.{Calibrator}
-use Rattle.calibrator.specs.Refusals.{verdict, refusalNumber, replyOf}
-use Rattle.calibrator.specs.Roll.{Feed}
-use Rattle.calibrator.specs.Feeding.{verdictIn, stepBy, step}
-use Rattle.calibrator.specs.FeedList.{replyNumber}
+use Rattle.calibrator.specs.Refusals.{verdict, refusalNumber, replyOf, replyNumber}
+use Rattle.calibrator.specs.Feeding.{Feed, verdictIn, stepBy, step}
 use Rattle.lines.specs.Lines.{refusedLine, replyLine}
 use Rattle.lines.specs.Steps.{errorLine}
 

@@ -6,14 +6,14 @@ use Prim.Native.String as text
 use Prim.Native.Nat.{ℕ, _+_, _%_, _^_}
 use mathlib.Core.List.{List, [], _∷_, _++_}
 use lib.Dec.{leb}
-use lib.ListN.{getD, take, drop}
+use lib.ListN.{getD}
 use Rattle.io.specs.Digits.{digits}
 use Rattle.lists.specs.Build.{tabulate}
 use Rattle.lists.specs.Count.{count}
 use Rattle.lists.specs.Tests.{Verdict, passes, fails}
 use Rattle.fields.specs.Numbers.{u32At}
-use Rattle.fields.specs.Fields.{valueStart}
-use Rattle.table.specs.Settings.{channels}
+use Rattle.fields.specs.Fields.{valueStart, valueIn}
+use Rattle.instrument.specs.Instrument.{channels}
 use Rattle.product.specs.Product.{productLayout}
 use Rattle.calibrator.specs.Refusals.{Reply, delivered, refused}
 
@@ -46,7 +46,7 @@ abbrev pub numberIn : List ℕ → ℕ
 numberIn product = u32At product (valueStart productLayout 0)
 
 abbrev pub flagsIn : List ℕ → List ℕ
-flagsIn product = take channels (drop (valueStart productLayout 1) product)
+flagsIn product = valueIn productLayout 1 product
 
 -- the line of a feed's answer and the product that it left
 unfoldable pub replyLine : Reply → List ℕ → List ℕ

@@ -4,17 +4,13 @@
 use Prim.Native.Nat.{ℕ}
 use mathlib.Core.List.{List, []}
 use lib.ListN.{length, replicate}
-use Rattle.fields.specs.Fields.{layoutSize}
-use Rattle.product.specs.Product.{productLayout}
+use Rattle.product.specs.Product.{productSize}
 use Rattle.calibrator.specs.declared.Calibrator.{Calibrator}
 use Rattle.calibrator.specs.Refusals.{Reply, delivered, refused}
 use Rattle.calibrator.specs.Feeding.{Stepped, step}
 use Rattle.lines.specs.declared.Listed.{Listed}
 use Rattle.lines.specs.declared.Calibrated.{Calibrated}
 use Rattle.lines.specs.Lines.{refusedLine, replyLine}
-
-abbrev pub productSize : ℕ
-productSize = layoutSize productLayout
 
 -- the buffer that the product is written to
 unfoldable pub emptyProduct : List ℕ

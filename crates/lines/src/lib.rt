@@ -5,6 +5,7 @@ ghost use Prim.Native.Nat.{_+_, _≤_};
 ghost use lib.ListN.{length};
 ghost use Rattle.io.specs.Counts.{Counts};
 ghost use Rattle.lists.specs.Build.{put};
+ghost use Rattle.instrument.specs.Instrument.{channels};
 ghost use Rattle.table.specs.Opening.{verdictOf};
 ghost use Rattle.calibrator.specs.Refusals.{replyOf};
 ghost use Rattle.calibrator.specs.Feeding.{step, Sound};
@@ -12,10 +13,17 @@ ghost use Rattle.lines.specs.Lines.{decimal, refusedLine, flagDigits, sc
 ghost use Rattle.lines.specs.Steps.{listedLine, listedOf, calibratedLine, calibratedOf};
 use calibrator::Answer;
 use calibrator::Calibrator;
+use instrument::CHANNELS;
+use product::FLAGS_AT;
+use product::NUMBER_AT;
+use product::PRODUCT_SIZE;
 use table::Opening;
 
-// The longest line: `scan `, ten digits, ` delivered `, ten digits, ` flags `, 22 digits and the line feed.
-pub const LONGEST: usize = 66;
+// Where the flags of a product end.
+const FLAGS_END: usize = FLAGS_AT + CHANNELS;
+
+// The longest line: `scan `, ten digits, ` delivered `, ten digits, ` flags `, a digit for each channel and the line feed.
+pub const LONGEST: usize = 44 + CHANNELS;
 
 // The calibrator that is handed back, and how many bytes the line has.
 pub struct Listed {
@@ -66,12 +74,12 @@ fn put_labelled(out: &mut [u8], at: usize, label: &[u8], n: u32) -> usize
     put_decimal(out, next, n)
 }
 
-fn flag_digits(flags: &[u8]) -> [u8; 22]
-    requires { ⌜ length (now flags) ≡ 22 ⌝ }
+fn flag_digits(flags: &[u8]) -> [u8; CHANNELS]
+    requires { ⌜ length (now flags) ≡ channels ⌝ }
     ensures { λ r. ⌜ r ≡ flagDigits (now (flags .entry)) ⌝ }
 {
-    let mut digits = [0u8; 22];
-    for c in 0..22usize {
+    let mut digits = [0u8; CHANNELS];
+    for c in 0..CHANNELS {
         digits[c] = 48 + flags[c] % 10;
     }
     digits
@@ -89,7 +97,7 @@ pub fn refused_line(number: u8, out: &mut [u8; LONGEST]) -> usize
 }
 
 fn scan_line(number: u32, delivered: u32, flags: &[u8], out: &mut [u8; LONGEST]) -> usize
-    requires { ⌜ length (now flags) ≡ 22 ⌝ }
+    requires { ⌜ length (now flags) ≡ channels ⌝ }
     ensures { λ r. ⌜ Counts r (now (out .exit)) ⌝ }
     ensures { λ r. ⌜ (r ≡ length (scanLine number delivered (now (flags .entry)))) × (now (out .exit) ≡ put (now (out .entry)) 0 (scanLine number delivered (now (flags .entry)))) ⌝ }
 {
@@ -103,15 +111,15 @@ fn scan_line(number: u32, delivered: u32, flags: &[u8], out: &mut [u8; LONGEST])
 }
 
 // The line of a feed's answer; of an accepted one, `product` is what it left.
-pub fn answer_line(answer: Answer, product: &[u8; 8706], out: &mut [u8; LONGEST]) -> usize
+pub fn answer_line(answer: Answer, product: &[u8; PRODUCT_SIZE], out: &mut [u8; LONGEST]) -> usize
     ensures { λ r. ⌜ Counts r (now (out .exit)) ⌝ }
     ensures { λ r. ⌜ (r ≡ length (replyLine (replyOf answer) (now (product .entry)))) × (now (out .exit) ≡ put (now (out .entry)) 0 (replyLine (replyOf answer) (now (product .entry)))) ⌝ }
 {
     match answer {
         Answer::Accepted(delivered) => {
             let whole: &[u8] = product;
-            let number = fields::u32_at(whole, 3);
-            scan_line(number, delivered, &whole[10..32], out)
+            let number = fields::u32_at(whole, NUMBER_AT);
+            scan_line(number, delivered, &whole[FLAGS_AT..FLAGS_END], out)
         }
         Answer::Refused(_) => refused_line(calibrator::answer_number(answer), out),
     }
@@ -138,7 +146,7 @@ pub fn list_record(calibrator: Calibrator, scan: &[u8], out: &mut [u8; LONGEST])
     ensures { λ r. ⌜ Counts (r .size) (now (out .exit)) ⌝ }
     ensures { λ r. ⌜ (r ≡ listedOf calibrator (now (scan .entry))) × (now (out .exit) ≡ put (now (out .entry)) 0 (listedLine calibrator (now (scan .entry)))) × Sound (r .calibrator) ⌝ }
 {
-    let mut product = [0u8; 8706];
+    let mut product = [0u8; PRODUCT_SIZE];
     let fed = calibrator.feed(scan, &mut product);
     let answer = fed.answer;
     let next = fed.calibrator;
@@ -153,7 +161,7 @@ pub fn list_record(calibrator: Calibrator, scan: &[u8], out: &mut [u8; LONGEST])
 pub fn calibrate_record(
     calibrator: Calibrator,
     scan: &[u8],
-    product: &mut [u8; 8706],
+    product: &mut [u8; PRODUCT_SIZE],
     line: &mut [u8; LONGEST],
 ) -> Calibrated
     requires { ⌜ Sound calibrator ⌝ }
@@ -167,7 +175,7 @@ pub fn calibrate_record(
     match answer {
         Answer::Accepted(_) => Calibrated {
             calibrator: after,
-            output: 8706,
+            output: PRODUCT_SIZE,
             errors: 0,
         },
         Answer::Refused(_) => Calibrated {

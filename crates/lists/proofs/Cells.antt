@@ -1,10 +1,10 @@
 -- Laws of `cells` and `filled`, for rules that give cells of k elements each: a buffer that is filled from the front, a cell at a time.
 use Prim.Native.Nat.{ℕ, zero, suc, _+_, _*_, _<_, _≤_}
 use native.Mathlib.Decide.{decLt}
-use native.Mathlib.Nat.{le-refl, suc-mul, zero-mul}
+use native.Mathlib.Nat.{le-refl, le-of-eq, mul-comm, mul-suc, suc-mul, zero-mul, mul-le-mul-left}
 use native.Mathlib.Numerals.{add-one}
 use native.Mathlib.Omega.{arith}
-use mathlib.Core.Path.{_≡_, refl, sym, ap, ap₂, _∙_}
+use mathlib.Core.Path.{_≡_, refl, sym, ap, ap₂, subst, _∙_}
 use mathlib.Core.List.{List, [], _++_, append-assoc, append-nil}
 use lib.ListN.{length, take, drop, length-append, drop-of-length-le}
 use lib.Seq.{take-at, drop-at}
@@ -15,8 +15,18 @@ pub filled-none : {A : Type 0} (f : ℕ → List A) (k : ℕ) (b : List A) → b
 unfolding cells
 filled-none f k b = sym (ap (λ (n : ℕ). drop n b) (zero-mul k))
 
+-- where cell i of n ends
+pub cell-inside : (k i n : ℕ) → i < n → k * i + k ≤ k * n
+cell-inside k i n below = subst (λ (m : ℕ). m ≤ k * n) (mul-suc k i) (mul-le-mul-left k below)
+
 pub filled-all : {A : Type 0} (f : ℕ → List A) (k n : ℕ) (b : List A) → length b ≤ n * k → filled f k n b ≡ cells f n
 filled-all f k n b full = rw (drop-of-length-le b full) (append-nil (cells f n))
+
+-- at the end of a loop that fills: i has reached n
+pub filled-to-end : {A : Type 0} (f : ℕ → List A) (k n : ℕ) (b : List A) {out : List A} {i : ℕ} → i ≡ n → length b ≡ k * n → out ≡ filled f k i b
+    → out ≡ cells f n
+filled-to-end f k n b end full is =
+    is ∙ ap (λ (i : ℕ). filled f k i b) end ∙ filled-all f k n b (le-of-eq (full ∙ mul-comm k n))
 
 module _ {A : Type 0} (f : ℕ → List A) (k : ℕ) (each : (i : ℕ) → length (f i) ≡ k) where
   pub length-cells : (n : ℕ) → length (cells f n) ≡ n * k
@@ -31,6 +41,14 @@ module _ {A : Type 0} (f : ℕ → List A) (k : ℕ) (each : (i : ℕ) → lengt
       put-behind (cells f n) (f n) b (n * k) (length-cells n)
       ∙ ap (λ (x : ℕ). cells f n ++ f n ++ drop x b) (ap (λ (x : ℕ). n * k + x) (each n) ∙ sym (suc-mul n k))
       ∙ ap (λ (x : ℕ). filled f k x b) (sym (add-one n))
+
+  -- a turn of such a loop: cell i is put right behind the first i
+  pub filled-by-put : (b : List A) (i : ℕ) {out v next : List A} → out ≡ filled f k i b → v ≡ f i → next ≡ put out (k * i) v → next ≡ filled f k (i + 1) b
+  filled-by-put b i {out} {v} is is-cell is-put =
+      is-put
+      ∙ ap (λ (n : ℕ). put out n v) (mul-comm k i)
+      ∙ ap₂ (λ (l w : List A). put l (i * k) w) is is-cell
+      ∙ filled-more i b
 
   -- the cell i of n stands at i * k, whatever comes behind
   pub cell-at : (n i : ℕ) (behind : List A) → i < n → take k (drop (i * k) (cells f n ++ behind)) ≡ f i

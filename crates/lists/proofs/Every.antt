@@ -4,8 +4,10 @@ use native.Mathlib.Decide.{decLt}
 use native.Mathlib.Numerals.{add-one}
 use native.Mathlib.Omega.{arith}
 use mathlib.Core.Path.{_≡_, refl, ap, ap₂, _∙_}
+use mathlib.Core.List.{List, [], _∷_}
 use mathlib.Core.Bool.{Bool, true, false, _&&_, and-eq-true-iff}
-use Rattle.lists.specs.Count.{every}
+use lib.ListN.{getD}
+use Rattle.lists.specs.Count.{every, allHold}
 
 module _ (holds : ℕ → Bool) where
   pub every-none : every holds 0 ≡ true
@@ -53,3 +55,9 @@ pub every-same : (holds also : ℕ → Bool) (n : ℕ) → ((i : ℕ) → i < n 
 unfolding every
 every-same holds also zero e = refl
 every-same holds also (suc n) e = ap₂ _&&_ (every-same holds also n (λ i h. e i (omega arith))) (e n (omega arith))
+
+-- all tests of a list hold, so each of them does
+pub each-of-all : (tests : List Bool) → allHold tests ≡ true → (i : ℕ) → getD tests i true ≡ true
+each-of-all [] h i = refl
+each-of-all (test ∷ more) h zero = and-eq-true-iff test (allHold more) .0 h .0
+each-of-all (test ∷ more) h (suc i) = each-of-all more (and-eq-true-iff test (allHold more) .0 h .1) i

@@ -1,7 +1,10 @@
-pub mod Elements
+pub mod Loops
 pub mod Tabulate
+pub mod Elements
 pub mod Put
+pub mod Fronts
 pub mod Cells
+pub mod Stands
 pub mod Count
 pub mod Every
 pub mod Sum

@@ -114,6 +114,9 @@ module _ {A : Type 0} where
   pub part-is-take : (xs : List A) (k n : ℕ) → take (k + n - k) (drop k xs) ≡ take n (drop k xs)
   part-is-take xs k n = ap (λ (m : ℕ). take m (drop k xs)) (add-sub-cancel-left k n)
 
+  pub length-part : (xs : List A) (k n : ℕ) → k + n ≤ length xs → length (take n (drop k xs)) ≡ n
+  length-part xs k n fits = length-take-le n (drop k xs) (rw (length-drop k xs) (omega arith))
+
   -- ---- a part that was lent and has come back
 
   -- `&mut xs[a..e]`, which came back as ys
@@ -121,10 +124,3 @@ module _ {A : Type 0} where
   lent-part-is-put xs ys a e end =
       let long : e - a ≡ length ys = omega arith in
       rw long (simp (append-assoc, drop-drop))
-
-  -- a head was put at `at`, and then the part behind it was lent and came back as the value
-  pub head-and-value-are-put : (b head value : List A) {whole part : List A} (at a e : ℕ)
-      → at + length head ≡ a → a + length value ≡ e → e ≤ length b → whole ≡ put b at head → part ≡ value
-      → take a whole ++ (part ++ drop (e - a) (drop a whole)) ≡ put b at (head ++ value)
-  head-and-value-are-put b head value {whole} {part} at a e behind end fits is-head is-value =
-      rw (is-value, lent-part-is-put whole value a e end, is-head) (put-after-put b head value at a behind (omega arith))

@@ -43,6 +43,11 @@ module _ {A : Type 0} (f : ℕ → A) where
   pub tabulated-all : (n : ℕ) (b : List A) → length b ≤ n → tabulate f n ++ drop n b ≡ tabulate f n
   tabulated-all n b full = rw (drop-of-length-le b full) (append-nil (tabulate f n))
 
+-- at the end of a loop that fills: i has reached n
+pub tabulated-to-end : {A : Type 0} (f : ℕ → A) (n : ℕ) (b : List A) {out : List A} {i : ℕ} → i ≡ n → length b ≤ n → out ≡ tabulate f i ++ drop i b
+    → out ≡ tabulate f n
+tabulated-to-end f n b end full is = is ∙ ap (λ (i : ℕ). tabulate f i ++ drop i b) end ∙ tabulated-all f n b full
+
 pub tabulate-same : {A : Type 0} (f g : ℕ → A) (n : ℕ) → ((i : ℕ) → i < n → f i ≡ g i) → tabulate f n ≡ tabulate g n
 unfolding tabulate
 tabulate-same f g zero same = refl
@@ -53,3 +58,8 @@ tabulate-same {A} f g (suc n) same =
 pub each-of-same : {A : Type 0} (f g : ℕ → A) (n : ℕ) → tabulate f n ≡ tabulate g n → (i : ℕ) → i < n → f i ≡ g i
 each-of-same {A} f g n same i below =
     sym (getD-tabulate f n i (g i) below) ∙ ap (λ (l : List A). getD l i (g i)) same ∙ getD-tabulate g n i (g i) below
+
+-- a list that is filled from the front by stores: the store of element i fills one place more
+pub filled-by-store : {A : Type 0} (f : ℕ → A) (b : List A) {out : List A} {v : A} (i : ℕ) → i < length b
+    → out ≡ tabulate f i ++ drop i b → v ≡ f i → set out i v ≡ tabulate f (i + 1) ++ drop (i + 1) b
+filled-by-store f b i room filled is-element = rw (is-element, filled) (tabulated-more f i b room)

@@ -1,4 +1,4 @@
--- What passes has met no test that applies.
+-- What passes has met no test that applies; what passes and what fails, and with which number, are told apart.
 use Prim.Native.Nat.{ℕ}
 use native.Mathlib.Omega.{arith}
 use mathlib.Core.Path.{_≡_, refl}
@@ -19,3 +19,9 @@ none-applies [] passed = tt
 none-applies ((number when applies) ∷ more) passed =
     let past = past-first applies number (firstThatApplies more) passed in
     (past .0, none-applies more (past .1))
+
+pub passes-is-no-failure : (n : ℕ) → passes ≡ fails n → ⊥
+passes-is-no-failure n same = let clash : _≡_ {A = ℕ} 0 1 = cc in omega arith
+
+pub failure-number : {n k : ℕ} → fails n ≡ fails k → n ≡ k
+failure-number same = cc

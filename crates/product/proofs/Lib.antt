@@ -3,5 +3,4 @@ pub mod Lengths
 pub mod SceneLaws
 pub mod Plain
 pub mod SummaryLaws
-pub mod Marks
 pub mod Bytes

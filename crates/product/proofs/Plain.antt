@@ -10,9 +10,11 @@ use Rattle.lists.proofs.Tabulate.{getD-tabulate}
 use Rattle.scene.specs.declared.Scene.{Scene}
 use Rattle.scene.specs.declared.Scene.the-variants.{Kelvin, Flagged, Outside, Guard}
 use Rattle.scene.specs.Scene.{value}
-use Rattle.window.specs.declared.Channel.{Channel}
+use Rattle.scene.specs.declared.Channel.{Channel}
+use Rattle.instrument.specs.Instrument.{channels, positions}
 use Rattle.product.specs.declared.Summary.{Summary}
-use Rattle.product.specs.Scenes.{sceneAt, earthPart, noChannel}
+use Rattle.product.specs.Scenes.{sceneAt, noChannel}
+use Rattle.record.specs.Record.{earthPart}
 use Rattle.product.specs.Summary.{noneDelivered, lesser, greater, withTemperature, withScene, summaryTo, summaryOf}
 use Rattle.product.specs.Product.{summaries}
 use Rattle.product.specs.Steps.{Plain}
@@ -42,10 +44,10 @@ plain-summary scenes each zero = plain-none
 plain-summary scenes each (suc n) = plain-with-scene (summaryTo scenes n) (scenes n) (plain-summary scenes each n) (each n)
 
 plain-summary-of : (channel : Channel) (part : List ℕ) → Plain (summaryOf channel part)
-plain-summary-of channel part = plain-summary (sceneAt channel part) (λ i. scene-in-not-nan channel _) 96
+plain-summary-of channel part = plain-summary (sceneAt channel part) (λ i. scene-in-not-nan channel _) positions
 
-pub plain-summaries : (channels : List Channel) (earth : List ℕ) (c : ℕ) → c < 22 → Plain (getD (summaries channels earth) c (summaryOf noChannel []))
+pub plain-summaries : (states : List Channel) (earth : List ℕ) (c : ℕ) → c < channels → Plain (getD (summaries states earth) c (summaryOf noChannel []))
 unfolding summaries
-plain-summaries channels earth c below =
-    subst Plain (sym (getD-tabulate (λ k. summaryOf (getD channels k noChannel) (earthPart earth k)) 22 c (summaryOf noChannel []) below))
-    (plain-summary-of (getD channels c noChannel) (earthPart earth c))
+plain-summaries states earth c below =
+    subst Plain (sym (getD-tabulate (λ k. summaryOf (getD states k noChannel) (earthPart earth k)) channels c (summaryOf noChannel []) below))
+    (plain-summary-of (getD states c noChannel) (earthPart earth c))

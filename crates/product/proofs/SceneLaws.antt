@@ -1,5 +1,4 @@
--- The scenes of a channel: none is a NaN, its bits fit four bytes and give its value back, and a temperature is t / 4096 with t from 1 to
--- 16,777,215.
+-- The scenes of a channel: none is a NaN, and a temperature is t / 4096 with t from 1 to 16,777,215.
 use Prim.Native.Nat.{ℕ, _≤_}
 use native.Mathlib.Omega.{arith}
 use mathlib.Core.Path.{_≡_, sym, ap, _∙_}
@@ -12,7 +11,7 @@ use Rattle.scene.specs.declared.Scene.the-variants.{Kelvin, Flagged}
 use Rattle.scene.specs.Scene.{kelvin, value, sceneOf}
 use Rattle.scene.proofs.Exact.{scene-not-nan, flagged-not-nan}
 use Rattle.scene.proofs.Delivered.{temperatureOf, delivered-exactly-when}
-use Rattle.window.specs.declared.Channel.{Channel}
+use Rattle.scene.specs.declared.Channel.{Channel}
 use Rattle.product.specs.Scenes.{sceneIn}
 
 -- a temperature in whole units

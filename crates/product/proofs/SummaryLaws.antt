@@ -22,9 +22,11 @@ use Rattle.scene.specs.declared.Scene.{Scene}
 use Rattle.scene.specs.declared.Scene.the-variants.{Kelvin, Flagged, Outside, Guard}
 use Rattle.scene.specs.Scene.{value}
 use Rattle.scene.proofs.Exact.{kelvin-order}
-use Rattle.window.specs.declared.Channel.{Channel}
+use Rattle.scene.specs.declared.Channel.{Channel}
+use Rattle.instrument.specs.Instrument.{channels, positions}
 use Rattle.product.specs.declared.Summary.{Summary}
-use Rattle.product.specs.Scenes.{earthPart, sceneAt, noChannel, delivered}
+use Rattle.product.specs.Scenes.{sceneAt, noChannel, delivered}
+use Rattle.record.specs.Record.{earthPart}
 use Rattle.product.specs.Summary.{noneDelivered, withTemperature, withScene, summaryTo, summaryOf}
 use Rattle.product.specs.Product.{summaries, deliveredCount}
 use Rattle.product.proofs.SceneLaws.{InUnits, temperature-in-units}
@@ -65,22 +67,22 @@ module _ (scenes : ℕ → Scene) where
       let holds : ℕ → Bool = λ k. delivered (scenes k) in
       omega (arith, count-is-delivered n, tests.count-when-true holds i is, tests.count-rises holds (i + 1) n (omega arith))
 
-pub summary-count : (channel : Channel) (part : List ℕ) → summaryOf channel part .count ≡ count (λ i. delivered (sceneAt channel part i)) 96
-summary-count channel part = count-is-delivered (sceneAt channel part) 96
+pub summary-count : (channel : Channel) (part : List ℕ) → summaryOf channel part .count ≡ count (λ i. delivered (sceneAt channel part i)) positions
+summary-count channel part = count-is-delivered (sceneAt channel part) positions
 
 -- what a product delivers is the sum over its channels
-pub delivered-count : (channels : List Channel) (earth : List ℕ)
-    → deliveredCount channels earth ≡ sum (λ c. count (λ i. delivered (sceneAt (getD channels c noChannel) (earthPart earth c) i)) 96) 22
+pub delivered-count : (states : List Channel) (earth : List ℕ)
+    → deliveredCount states earth ≡ sum (λ c. count (λ i. delivered (sceneAt (getD states c noChannel) (earthPart earth c) i)) positions) channels
 unfolding deliveredCount
-delivered-count channels earth = sum-same _ _ 22 (λ c below. summary-count (getD channels c noChannel) (earthPart earth c))
+delivered-count states earth = sum-same _ _ channels (λ c below. summary-count (getD states c noChannel) (earthPart earth c))
 
 -- the counts of the summaries that a product holds add up to what it delivers
-pub counts-of-summaries : (channels : List Channel) (earth : List ℕ)
-    → sum (λ c. getD (summaries channels earth) c (summaryOf noChannel []) .count) 22 ≡ deliveredCount channels earth
+pub counts-of-summaries : (states : List Channel) (earth : List ℕ)
+    → sum (λ c. getD (summaries states earth) c (summaryOf noChannel []) .count) channels ≡ deliveredCount states earth
 unfolding summaries deliveredCount
-counts-of-summaries channels earth =
-    let each : ℕ → Summary = λ c. summaryOf (getD channels c noChannel) (earthPart earth c) in
-    sum-same _ (λ c. each c .count) 22 (λ c below. ap (λ (s : Summary). s .count) (getD-tabulate each 22 c (summaryOf noChannel []) below))
+counts-of-summaries states earth =
+    let each : ℕ → Summary = λ c. summaryOf (getD states c noChannel) (earthPart earth c) in
+    sum-same _ (λ c. each c .count) channels (λ c below. ap (λ (s : Summary). s .count) (getD-tabulate each channels c (summaryOf noChannel []) below))
 
 -- ---- no scene delivered
 
@@ -99,7 +101,7 @@ none-to scenes (suc n) none = none-with-scene (summaryTo scenes n) (scenes n) (n
 pub ends-when-none : (channel : Channel) (part : List ℕ) → summaryOf channel part .count ≡ 0
     → (summaryOf channel part .low ≡ fin true 1 (pos 0)) × (summaryOf channel part .high ≡ fin true 1 (pos 0))
 ends-when-none channel part none =
-    let is = none-to (sceneAt channel part) 96 none in
+    let is = none-to (sceneAt channel part) positions none in
     (ap (λ (s : Summary). s .low) is, ap (λ (s : Summary). s .high) is)
 
 -- ---- the ends, for either order: `before` is `lt` for the lowest, and `lt` the other way round for the highest
@@ -214,10 +216,10 @@ downwards = record {
 }
 
 module _ (channel : Channel) (part : List ℕ) (some : 0 < summaryOf channel part .count) where
-  pub lowest : IsEnd lt (sceneAt channel part) 96 (summaryOf channel part .low)
+  pub lowest : IsEnd lt (sceneAt channel part) positions (summaryOf channel part .low)
   unfolding withTemperature
-  lowest = end-of-first (sceneAt channel part) (λ i. temperature-in-units channel _) lt upwards (λ s. s .low) (λ s x. refl) 96 some
+  lowest = end-of-first (sceneAt channel part) (λ i. temperature-in-units channel _) lt upwards (λ s. s .low) (λ s x. refl) positions some
 
-  pub highest : IsEnd above (sceneAt channel part) 96 (summaryOf channel part .high)
+  pub highest : IsEnd above (sceneAt channel part) positions (summaryOf channel part .high)
   unfolding withTemperature
-  highest = end-of-first (sceneAt channel part) (λ i. temperature-in-units channel _) above downwards (λ s. s .high) (λ s x. refl) 96 some
+  highest = end-of-first (sceneAt channel part) (λ i. temperature-in-units channel _) above downwards (λ s. s .high) (λ s x. refl) positions some

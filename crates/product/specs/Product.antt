@@ -1,57 +1,59 @@
--- Document 01, "The product, 8,706 bytes".
-use Prim.Native.Nat.{ℕ, _+_, _/_, _%_}
+-- Document 01, "The product, 8,706 bytes". The states are those of the channels, in order.
+use Prim.Native.Nat.{ℕ, _*_}
 use mathlib.Core.List.{List, [], _∷_, _++_}
 use lib.ListN.{getD}
 use lib.Ieee.{binary32, toBits}
-use Rattle.fields.specs.Fields.{Field, field}
+use Rattle.fields.specs.Numbers.{u16Bytes, u32Bytes}
+use Rattle.fields.specs.Fields.{Field, field, layoutSize, fieldAt, fieldBytes}
 use Rattle.lists.specs.Build.{tabulate, cells}
 use Rattle.lists.specs.Sum.{sum}
+use Rattle.instrument.specs.Instrument.{channels, positions}
+use Rattle.record.specs.Record.{earthPart}
 use Rattle.scene.specs.Scene.{bits}
-use Rattle.window.specs.declared.Channel.{Channel}
+use Rattle.scene.specs.declared.Channel.{Channel}
 use Rattle.product.specs.declared.Summary.{Summary}
-use Rattle.product.specs.Scenes.{earthPart, sceneAt, noChannel}
+use Rattle.product.specs.Scenes.{sceneAt, noChannel}
 use Rattle.product.specs.Summary.{summaryOf}
 
 abbrev pub productLayout : List Field
 productLayout = field 0x20 4 ∷ field 0x21 22 ∷ field 0x22 8448 ∷ field 0x23 220 ∷ []
 
--- big-endian numbers
-abbrev pub u16Bytes : ℕ → List ℕ
-u16Bytes n = n / 256 ∷ n % 256 ∷ []
+abbrev pub productSize : ℕ
+productSize = layoutSize productLayout
 
-abbrev pub u32Bytes : ℕ → List ℕ
-u32Bytes n = n / 16777216 ∷ n / 65536 % 256 ∷ n / 256 % 256 ∷ n % 256 ∷ []
+-- the bytes of a channel's scenes, four each, and of a channel's summary
+abbrev pub stretchSize : ℕ
+stretchSize = 4 * positions
 
--- a tag, a length and a value
-abbrev pub fieldBytes : ℕ → ℕ → List ℕ → List ℕ
-fieldBytes tag size value = (tag ∷ u16Bytes size) ++ value
+abbrev pub summarySize : ℕ
+summarySize = 10
 
--- 0x22: scenes as f32 bits, channel by channel, 96 a channel
+-- 0x22: scenes as f32 bits, channel by channel
 unfoldable pub channelScenes : Channel → List ℕ → List ℕ
-channelScenes channel part = cells (λ i. u32Bytes (bits (sceneAt channel part i))) 96
+channelScenes channel part = cells (λ i. u32Bytes (bits (sceneAt channel part i))) positions
 
 unfoldable pub sceneBytes : List Channel → List ℕ → List ℕ
-sceneBytes channels earth = cells (λ c. channelScenes (getD channels c noChannel) (earthPart earth c)) 22
+sceneBytes states earth = cells (λ c. channelScenes (getD states c noChannel) (earthPart earth c)) channels
 
 -- 0x23
 unfoldable pub summaryBytes : Summary → List ℕ
 summaryBytes s = u16Bytes (s .count) ++ (u32Bytes (toBits binary32 (s .low)) ++ u32Bytes (toBits binary32 (s .high)))
 
 unfoldable pub summaries : List Channel → List ℕ → List Summary
-summaries channels earth = tabulate (λ c. summaryOf (getD channels c noChannel) (earthPart earth c)) 22
+summaries states earth = tabulate (λ c. summaryOf (getD states c noChannel) (earthPart earth c)) channels
 
 unfoldable pub summariesBytes : List Summary → List ℕ
-summariesBytes all = cells (λ c. summaryBytes (getD all c (summaryOf noChannel []))) 22
+summariesBytes all = cells (λ c. summaryBytes (getD all c (summaryOf noChannel []))) channels
 
 -- 0x21
 unfoldable pub flagBytes : List Channel → List ℕ
-flagBytes channels = tabulate (λ c. getD channels c noChannel .flag) 22
+flagBytes states = tabulate (λ c. getD states c noChannel .flag) channels
 
 unfoldable pub productOf : ℕ → List Channel → List ℕ → List ℕ
-productOf number channels earth =
-    fieldBytes 0x20 4 (u32Bytes number) ++ (fieldBytes 0x21 22 (flagBytes channels)
-    ++ (fieldBytes 0x22 8448 (sceneBytes channels earth) ++ fieldBytes 0x23 220 (summariesBytes (summaries channels earth))))
+productOf number states earth =
+    fieldBytes (fieldAt productLayout 0) (u32Bytes number) ++ (fieldBytes (fieldAt productLayout 1) (flagBytes states)
+    ++ (fieldBytes (fieldAt productLayout 2) (sceneBytes states earth) ++ fieldBytes (fieldAt productLayout 3) (summariesBytes (summaries states earth))))
 
 -- how many scenes are delivered: the sum of the channels' counts
 unfoldable pub deliveredCount : List Channel → List ℕ → ℕ
-deliveredCount channels earth = sum (λ c. summaryOf (getD channels c noChannel) (earthPart earth c) .count) 22
+deliveredCount states earth = sum (λ c. summaryOf (getD states c noChannel) (earthPart earth c) .count) channels

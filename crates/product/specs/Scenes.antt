@@ -3,21 +3,15 @@ use Prim.Native.Nat.{ℕ, _*_}
 use mathlib.Core.List.{List}
 use mathlib.Core.Bool.{Bool, true, false, cond}
 use lib.Dec.{eqb}
-use lib.ListN.{take, drop}
 use Rattle.fields.specs.Numbers.{u16At}
 use Rattle.scene.specs.declared.Scene.{Scene}
 use Rattle.scene.specs.declared.Scene.the-variants.{Kelvin, Flagged, Outside, Guard}
-use Rattle.scene.specs.Scene.{sceneOf}
-use Rattle.window.specs.declared.Channel.{Channel}
-use Rattle.window.specs.Means.{noConstants}
+use Rattle.scene.specs.Scene.{sceneOf, noConstants}
+use Rattle.scene.specs.declared.Channel.{Channel}
 
 -- a flagged channel has no other scene
 unfoldable pub sceneIn : Channel → ℕ → Scene
 sceneIn channel count = cond (eqb (channel .flag) 0) (sceneOf (channel .constants) count) Flagged
-
--- a channel's part of the earth counts: 96 counts, 192 bytes
-abbrev pub earthPart : List ℕ → ℕ → List ℕ
-earthPart earth c = take 192 (drop (192 * c) earth)
 
 -- past the last channel; nothing reads it
 abbrev pub noChannel : Channel

@@ -1,18 +1,12 @@
 -- What the private functions cite. A reader of the promises can leave this out.
-use Prim.Native.Nat.{ℕ}
-use mathlib.Core.List.{List, _∷_}
 use mathlib.Core.Bool.{not, cond}
 use lib.Dec.{T, eqb}
 use lib.IntN.{pos}
 use lib.Ieee.{isNan}
 use Rattle.scene.specs.declared.Scale.{Scale}
 use Rattle.scene.specs.Steps.{scaleOf}
-use Rattle.window.specs.declared.Channel.{Channel}
+use Rattle.scene.specs.declared.Channel.{Channel}
 use Rattle.product.specs.declared.Summary.{Summary}
-use Rattle.product.specs.Product.{u16Bytes}
-
-abbrev pub headBytes : ℕ → ℕ → List ℕ
-headBytes tag size = tag ∷ u16Bytes size
 
 -- both ends can be written: neither is a NaN
 pub record Plain (s : Summary) : Type 0 where

@@ -8,7 +8,8 @@ use lib.IntN.{pos}
 use lib.Ieee.{Float, fin, lt}
 use Rattle.scene.specs.declared.Scene.{Scene}
 use Rattle.scene.specs.declared.Scene.the-variants.{Kelvin, Flagged, Outside, Guard}
-use Rattle.window.specs.declared.Channel.{Channel}
+use Rattle.scene.specs.declared.Channel.{Channel}
+use Rattle.instrument.specs.Instrument.{positions}
 use Rattle.product.specs.declared.Summary.{Summary}
 use Rattle.product.specs.Scenes.{sceneAt}
 
@@ -39,6 +40,6 @@ unfoldable pub summaryTo : (ℕ → Scene) → ℕ → Summary
 summaryTo scenes zero = noneDelivered
 summaryTo scenes (suc n) = withScene (summaryTo scenes n) (scenes n)
 
--- of a channel's 96 scenes
+-- of a channel's scenes
 abbrev pub summaryOf : Channel → List ℕ → Summary
-summaryOf channel part = summaryTo (sceneAt channel part) 96
+summaryOf channel part = summaryTo (sceneAt channel part) positions

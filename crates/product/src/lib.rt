@@ -5,14 +5,45 @@ ghost use Prim.Native.Nat.{ℕ, _+_, _*_, _<_, _≤_};
 ghost use lib.ListN.{length, drop, getD};
 ghost use Rattle.lists.specs.Build.{put};
 ghost use Rattle.lists.specs.Sum.{sum};
+ghost use Rattle.instrument.specs.Instrument.{channels};
+ghost use Rattle.record.specs.Record.{earthSize};
 ghost use Rattle.product.specs.Scenes.{sceneIn, noChannel};
 ghost use Rattle.product.specs.Ranges.{ChannelRange};
 ghost use Rattle.product.specs.Summary.{noneDelivered, lesser, greater, withTemperature, withScene, summaryOf};
-ghost use Rattle.product.specs.Product.{u16Bytes, u32Bytes, fieldBytes, channelScenes, sceneBytes, summaryBytes, summaries, summariesBytes, flagBytes, productOf, deliveredCount};
-ghost use Rattle.product.specs.Steps.{headBytes, Plain, scaleIn};
+ghost use Rattle.product.specs.Product.{productSize, stretchSize, summarySize, channelScenes, sceneBytes, summaryBytes, summaries, summariesBytes, flagBytes, productOf, deliveredCount};
+ghost use Rattle.product.specs.Steps.{Plain, scaleIn};
+use fields::HEAD;
+use instrument::CHANNELS;
+use instrument::POSITIONS;
+use record::EARTH_SIZE;
+use scene::Channel;
 use scene::Scale;
 use scene::Scene;
-use window::Channel;
+
+// The layout, and where each field begins.
+const TAGS: [u8; 4] = [0x20, 0x21, 0x22, 0x23];
+
+const SIZES: [u16; 4] = [4, 22, 8448, 220];
+
+const NUMBER: usize = 0;
+
+const FLAGS: usize = NUMBER + HEAD + SIZES[0] as usize;
+
+const SCENES: usize = FLAGS + HEAD + SIZES[1] as usize;
+
+const SUMMARIES: usize = SCENES + HEAD + SIZES[2] as usize;
+
+pub const PRODUCT_SIZE: usize = SUMMARIES + HEAD + SIZES[3] as usize;
+
+// Where the values of the first two start.
+pub const NUMBER_AT: usize = NUMBER + HEAD;
+
+pub const FLAGS_AT: usize = FLAGS + HEAD;
+
+// The bytes of a channel's scenes, four each, and of a channel's summary.
+const STRETCH_SIZE: usize = 4 * POSITIONS;
+
+const SUMMARY_SIZE: usize = 10;
 
 // Of a channel: how many scenes are delivered, the lowest and the highest temperature.
 pub struct Summary {
@@ -105,62 +136,36 @@ fn scene_in(channel: Channel, scale: Scale, count: u16) -> Scene
 
 // ---- writing
 
-fn put_u16(out: &mut [u8], at: usize, n: u16)
-    requires { ⌜ at + 2 ≤ length (now out) ⌝ }
-    ensures { λ _. ⌜ now (out .exit) ≡ put (now (out .entry)) at (u16Bytes n) ⌝ }
-{
-    out[at] = (n / 256) as u8;
-    out[at + 1] = (n % 256) as u8;
-}
-
-fn put_u32(out: &mut [u8], at: usize, n: u32)
-    requires { ⌜ at + 4 ≤ length (now out) ⌝ }
-    ensures { λ _. ⌜ now (out .exit) ≡ put (now (out .entry)) at (u32Bytes n) ⌝ }
-{
-    out[at] = (n / 16777216) as u8;
-    out[at + 1] = (n / 65536 % 256) as u8;
-    out[at + 2] = (n / 256 % 256) as u8;
-    out[at + 3] = (n % 256) as u8;
-}
-
-fn put_head(out: &mut [u8], at: usize, tag: u8, size: u16)
-    requires { ⌜ at + 3 ≤ length (now out) ⌝ }
-    ensures { λ _. ⌜ now (out .exit) ≡ put (now (out .entry)) at (headBytes tag size) ⌝ }
-{
-    out[at] = tag;
-    put_u16(out, at + 1, size);
-}
-
 // The scenes of a channel into its own stretch; `part` is the channel's part of the earth counts.
 fn write_channel(out: &mut [u8], channel: Channel, part: &[u8]) -> Summary
-    requires { ⌜ (length (now out) ≡ 384) × (length (now part) ≡ 192) × ChannelRange channel ⌝ }
+    requires { ⌜ (length (now out) ≡ stretchSize) × (length (now part) ≡ earthSize) × ChannelRange channel ⌝ }
     ensures { λ r. ⌜ (r ≡ summaryOf channel (now (part .entry))) × (now (out .exit) ≡ channelScenes channel (now (part .entry))) ⌝ }
 {
     let scale = scale_in(channel);
     let mut summary = Summary::none();
-    for i in 0..96usize {
+    for i in 0..POSITIONS {
         let s = scene_in(channel, scale, fields::u16_at(part, 2 * i));
         summary = summary.with_scene(s);
-        put_u32(out, 4 * i, scene::bits_of(s));
+        fields::put_u32(out, 4 * i, scene::bits_of(s));
     }
     summary
 }
 
 // The scenes of all channels; each is lent its own stretch, and its own part of the earth counts.
-fn write_scenes(out: &mut [u8], channels: [Channel; 22], earth: &[u8]) -> [Summary; 22]
-    requires { ⌜ (length (now out) ≡ 8448) × (length (now earth) ≡ 4224) × ((c : ℕ) → c < 22 → ChannelRange (getD channels c noChannel)) ⌝ }
-    ensures { λ r. ⌜ (r ≡ summaries channels (now (earth .entry))) × (now (out .exit) ≡ sceneBytes channels (now (earth .entry))) ⌝ }
+fn write_scenes(out: &mut [u8], states: [Channel; CHANNELS], earth: &[u8]) -> [Summary; CHANNELS]
+    requires { ⌜ (length (now out) ≡ stretchSize * channels) × (length (now earth) ≡ earthSize * channels) × ((c : ℕ) → c < channels → ChannelRange (getD states c noChannel)) ⌝ }
+    ensures { λ r. ⌜ (r ≡ summaries states (now (earth .entry))) × (now (out .exit) ≡ sceneBytes states (now (earth .entry))) ⌝ }
 {
     let first = Summary::none();
-    let mut all = [first; 22];
-    for c in 0..22usize {
-        let channel = channels[c];
-        let from = 192 * c;
-        let start = 384 * c;
+    let mut all = [first; CHANNELS];
+    for c in 0..CHANNELS {
+        let channel = states[c];
+        let from = EARTH_SIZE * c;
+        let start = STRETCH_SIZE * c;
         let summary = write_channel(
-            &mut out[start..start + 384],
+            &mut out[start..start + STRETCH_SIZE],
             channel,
-            &earth[from..from + 192],
+            &earth[from..from + EARTH_SIZE],
         );
         all[c] = summary;
     }
@@ -168,87 +173,62 @@ fn write_scenes(out: &mut [u8], channels: [Channel; 22], earth: &[u8]) -> [Summa
 }
 
 fn put_summary(out: &mut [u8], at: usize, s: Summary)
-    requires { ⌜ (at + 10 ≤ length (now out)) × Plain s ⌝ }
+    requires { ⌜ (at + summarySize ≤ length (now out)) × Plain s ⌝ }
     ensures { λ _. ⌜ now (out .exit) ≡ put (now (out .entry)) at (summaryBytes s) ⌝ }
 {
-    put_u16(out, at, s.count);
-    put_u32(out, at + 2, f32::to_bits(s.low));
-    put_u32(out, at + 6, f32::to_bits(s.high));
+    fields::put_u16(out, at, s.count);
+    fields::put_u32(out, at + 2, f32::to_bits(s.low));
+    fields::put_u32(out, at + 6, f32::to_bits(s.high));
 }
 
-fn write_summaries(out: &mut [u8], all: [Summary; 22])
-    requires { ⌜ (length (now out) ≡ 220) × ((c : ℕ) → c < 22 → Plain (getD all c (summaryOf noChannel []))) ⌝ }
+fn write_summaries(out: &mut [u8], all: [Summary; CHANNELS])
+    requires { ⌜ (length (now out) ≡ summarySize * channels) × ((c : ℕ) → c < channels → Plain (getD all c (summaryOf noChannel []))) ⌝ }
     ensures { λ _. ⌜ now (out .exit) ≡ summariesBytes all ⌝ }
 {
-    for c in 0..22usize {
+    for c in 0..CHANNELS {
         let s = all[c];
-        put_summary(out, 10 * c, s);
+        put_summary(out, SUMMARY_SIZE * c, s);
     }
 }
 
-fn write_flags(out: &mut [u8], channels: [Channel; 22])
-    requires { ⌜ length (now out) ≡ 22 ⌝ }
-    ensures { λ _. ⌜ now (out .exit) ≡ flagBytes channels ⌝ }
+fn write_flags(out: &mut [u8], states: [Channel; CHANNELS])
+    requires { ⌜ length (now out) ≡ channels ⌝ }
+    ensures { λ _. ⌜ now (out .exit) ≡ flagBytes states ⌝ }
 {
-    for c in 0..22usize {
-        let channel = channels[c];
+    for c in 0..CHANNELS {
+        let channel = states[c];
         out[c] = channel.flag;
     }
 }
 
-fn total_count(all: [Summary; 22]) -> u32
-    ensures { λ n. ⌜ n ≡ sum (λ c. getD all c (summaryOf noChannel []) .count) 22 ⌝ }
+fn total_count(all: [Summary; CHANNELS]) -> u32
+    ensures { λ n. ⌜ n ≡ sum (λ c. getD all c (summaryOf noChannel []) .count) channels ⌝ }
 {
     let mut n = 0u32;
-    for c in 0..22usize {
+    for c in 0..CHANNELS {
         let s = all[c];
         n = n + s.count as u32;
     }
     n
 }
 
-// ---- the fields of the product, each with its head
-
-fn put_number(buffer: &mut [u8], number: u32)
-    requires { ⌜ 8706 ≤ length (now buffer) ⌝ }
-    ensures { λ _. ⌜ now (buffer .exit) ≡ put (now (buffer .entry)) 0 (fieldBytes 0x20 4 (u32Bytes number)) ⌝ }
+// The whole product into the front of a buffer, and how many scenes it delivers. Bytes past it stay.
+pub fn write_product(
+    buffer: &mut [u8],
+    number: u32,
+    states: [Channel; CHANNELS],
+    earth: &[u8],
+) -> u32
+    requires { ⌜ (productSize ≤ length (now buffer)) × (length (now earth) ≡ earthSize * channels) × ((c : ℕ) → c < channels → ChannelRange (getD states c noChannel)) ⌝ }
+    ensures { λ n. ⌜ (n ≡ deliveredCount states (now (earth .entry))) × (now (buffer .exit) ≡ productOf number states (now (earth .entry)) ++ drop productSize (now (buffer .entry))) ⌝ }
 {
-    put_head(buffer, 0, 0x20, 4);
-    put_u32(buffer, 3, number);
-}
-
-fn put_flags(buffer: &mut [u8], channels: [Channel; 22])
-    requires { ⌜ 8706 ≤ length (now buffer) ⌝ }
-    ensures { λ _. ⌜ now (buffer .exit) ≡ put (now (buffer .entry)) 7 (fieldBytes 0x21 22 (flagBytes channels)) ⌝ }
-{
-    put_head(buffer, 7, 0x21, 22);
-    write_flags(&mut buffer[10..32], channels);
-}
-
-fn put_scenes(buffer: &mut [u8], channels: [Channel; 22], earth: &[u8]) -> [Summary; 22]
-    requires { ⌜ (8706 ≤ length (now buffer)) × (length (now earth) ≡ 4224) × ((c : ℕ) → c < 22 → ChannelRange (getD channels c noChannel)) ⌝ }
-    ensures { λ r. ⌜ (r ≡ summaries channels (now (earth .entry))) × (now (buffer .exit) ≡ put (now (buffer .entry)) 32 (fieldBytes 0x22 8448 (sceneBytes channels (now (earth .entry))))) ⌝ }
-{
-    put_head(buffer, 32, 0x22, 8448);
-    write_scenes(&mut buffer[35..8483], channels, earth)
-}
-
-fn put_summaries(buffer: &mut [u8], all: [Summary; 22])
-    requires { ⌜ (8706 ≤ length (now buffer)) × ((c : ℕ) → c < 22 → Plain (getD all c (summaryOf noChannel []))) ⌝ }
-    ensures { λ _. ⌜ now (buffer .exit) ≡ put (now (buffer .entry)) 8483 (fieldBytes 0x23 220 (summariesBytes all)) ⌝ }
-{
-    put_head(buffer, 8483, 0x23, 220);
-    write_summaries(&mut buffer[8486..8706], all);
-}
-
-// The whole product into the front of a buffer, and how many scenes it delivers. Bytes past 8,706 stay.
-pub fn write_product(buffer: &mut [u8], number: u32, channels: [Channel; 22], earth: &[u8]) -> u32
-    requires { ⌜ (8706 ≤ length (now buffer)) × (length (now earth) ≡ 4224) × ((c : ℕ) → c < 22 → ChannelRange (getD channels c noChannel)) ⌝ }
-    ensures { λ n. ⌜ (n ≡ deliveredCount channels (now (earth .entry))) × (now (buffer .exit) ≡ productOf number channels (now (earth .entry)) ++ drop 8706 (now (buffer .entry))) ⌝ }
-{
-    put_number(buffer, number);
-    put_flags(buffer, channels);
-    let all = put_scenes(buffer, channels, earth);
-    put_summaries(buffer, all);
+    fields::put_head(buffer, NUMBER, TAGS[0], SIZES[0]);
+    fields::put_u32(buffer, NUMBER_AT, number);
+    fields::put_head(buffer, FLAGS, TAGS[1], SIZES[1]);
+    write_flags(&mut buffer[FLAGS_AT..SCENES], states);
+    fields::put_head(buffer, SCENES, TAGS[2], SIZES[2]);
+    let all = write_scenes(&mut buffer[SCENES + HEAD..SUMMARIES], states, earth);
+    fields::put_head(buffer, SUMMARIES, TAGS[3], SIZES[3]);
+    write_summaries(&mut buffer[SUMMARIES + HEAD..PRODUCT_SIZE], all);
     total_count(all)
 }

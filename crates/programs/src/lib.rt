@@ -4,7 +4,10 @@ use calibrator::Calibrator;
 use libc::STDERR_FILENO;
 use libc::STDIN_FILENO;
 use libc::STDOUT_FILENO;
+use product::PRODUCT_SIZE;
+use record::RECORD_SIZE;
 use table::Opening;
+use table::TABLE_SIZE;
 ghost use mathlib.Core.Path.{_≡_};
 ghost use Rattle.calibrator.specs.Feeding.{Sound};
 ghost use Rattle.io.specs.Counts.{Counts};
@@ -46,7 +49,7 @@ fn calibrate(calibrator: Calibrator, scan: &[u8]) -> Turned
     ensures { λ t. ⌜ t .calibrator ≡ calibratedOf calibrator (now (scan .entry)) .calibrator ⌝ }
     ensures { λ t. ⌜ Sound (t .calibrator) ⌝ }
 {
-    let mut product = [0u8; 8706];
+    let mut product = [0u8; PRODUCT_SIZE];
     let mut line = [0u8; lines::LONGEST];
     let calibrated = lines::calibrate_record(calibrator, scan, &mut product, &mut line);
     let output = calibrated.output;
@@ -69,7 +72,7 @@ fn turn(program: Program, calibrator: Calibrator) -> Turned
     requires { ⌜ Sound calibrator ⌝ }
     ensures { λ t. ⌜ Sound (t .calibrator) ⌝ }
 {
-    let mut scan = [0u8; 4629];
+    let mut scan = [0u8; RECORD_SIZE];
     let n = io::read_full(STDIN_FILENO, &mut scan);
     if n == 0 {
         return Turned {
@@ -122,9 +125,9 @@ fn with_table(program: Program, bytes: &[u8]) {
     io::write_all(refusals_to(program), &line[..size]);
 }
 
-// Reads table.bin of the working directory and answers how many bytes it has, a longer one than a table counting as 742. One that
+// Reads table.bin of the working directory and answers how many bytes it has, a longer one than a table counting as one byte longer. One that
 // cannot be opened or read counts as empty.
-fn read_table(bytes: &mut [u8; 742]) -> usize
+fn read_table(bytes: &mut [u8; TABLE_SIZE + 1]) -> usize
     ensures { λ r. ⌜ Counts r (now (bytes .exit)) ⌝ }
 {
     let file = os::open_read(b"table.bin");
@@ -137,7 +140,7 @@ fn read_table(bytes: &mut [u8; 742]) -> usize
 }
 
 pub fn run(program: Program) {
-    let mut bytes = [0u8; 742];
+    let mut bytes = [0u8; TABLE_SIZE + 1];
     let n = read_table(&mut bytes);
     with_table(program, &bytes[..n]);
 }

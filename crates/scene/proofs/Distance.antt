@@ -16,7 +16,7 @@ use Rattle.integers.proofs.Nearest.{r-within-half, within-half-at-most}
 use Rattle.integers.proofs.Fractions.{product-above, distance-same, distance-weaker}
 use Rattle.scene.specs.Temperature.{X, temperature}
 use Rattle.scene.specs.Unrounded.{unroundedTw, E, quadratic}
-use Rattle.scene.proofs.Formal.{Formal, _/ᵉ_, wholeᵉ, _+ᵉ_, _-ᵉ_, _*ᵉ_, same-fraction}
+use Rattle.integers.proofs.Formal.{Formal, _/ᵉ_, wholeᵉ, _+ᵉ_, _-ᵉ_, _*ᵉ_, same-fraction}
 
 -- the three roundings of a scene: x is X, T is tc + linear + bend
 pub record SceneRoundings (tc rise tnl d n x linear bend : ℤ) : Type 0 where

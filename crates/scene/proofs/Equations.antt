@@ -2,14 +2,13 @@
 use mathlib.Core.List.{[], _∷_}
 use lib.IntN.{ℤ, pos, _-ℤ_, _*ℤ_}
 use lib.Signed.{_<ℤ_, ltZ-yes}
-use Rattle.integers.specs.Fractions.{Fraction, _/ᶠ_, whole, _+ᶠ_, _-ᶠ_, _*ᶠ_, _÷ᶠ_, _≡ᶠ_}
+use Rattle.integers.specs.Fractions.{Fraction, _/ᶠ_, whole, _+ᶠ_, _-ᶠ_, _*ᶠ_, _÷ᶠ_, _≡ᶠ_, Equal}
 use Rattle.integers.proofs.Ring.{_:-_, _:*_, #, v0, v1, v2, v3, v4, v5, v6, v7}
 use Rattle.integers.proofs.Certificate.{_:<_, hyp, nat, _⊕_, _⊗_, lt-by}
 use Rattle.integers.proofs.Fractions.{product-above}
 use Rattle.scene.specs.Temperature.{N}
 use Rattle.scene.specs.Unrounded.{E, linear, relative, quadratic, corrected, meanCount}
-use Rattle.scene.proofs.Formal.{_/ᵉ_, wholeᵉ, _+ᵉ_, _-ᵉ_, _*ᵉ_, _÷ᵉ_, same-fraction}
-use Rattle.integers.specs.Fractions.{Equal}
+use Rattle.integers.proofs.Formal.{_/ᵉ_, wholeᵉ, _+ᵉ_, _-ᵉ_, _*ᵉ_, _÷ᵉ_, same-fraction}
 use Rattle.integers.proofs.EqualFractions.{same-itself, same-trans, same-sum, same-difference, same-product, same-divided}
 use Rattle.scene.proofs.Distance.{one-above}
 

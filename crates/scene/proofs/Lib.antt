@@ -1,7 +1,6 @@
 pub mod Ranges
 pub mod Exact
 pub mod Delivered
-pub mod Formal
 pub mod Distance
 pub mod Equations
 mod Bracket

@@ -42,3 +42,7 @@ unfolding kelvin temperature
 sceneOf k count =
     let n = numerator k count in let t = temperature (k .tc) (k .rise) (k .tnl) (k .d) n in
     cond (outside n (k .d)) Outside (cond (guardFails t) Guard (Kelvin (kelvin (natAbs t))))
+
+-- a flagged channel has no constants; nothing reads these
+abbrev pub noConstants : Constants
+noConstants = record { tc = pos 0; rise = pos 0; tnl = pos 0; d = pos 0; slope = pos 0; base = pos 0 }

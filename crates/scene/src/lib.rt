@@ -33,6 +33,12 @@ pub struct Constants {
     pub base: i64,
 }
 
+// The flag of a channel and, where it is 0, what its scenes need.
+pub struct Channel {
+    pub flag: u8,
+    pub constants: Constants,
+}
+
 // What the scenes of a channel share, so that most need no division: 2^63 / D, cut off; the greatest rest of 2^32 that 33 times the rise
 // does not fill; and 5D / 4, cut off, the greatest N that is not outside.
 pub struct Scale {

@@ -8,7 +8,7 @@ use Rattle.lists.specs.Tests.{Verdict, passes, fails}
 use Rattle.thermometer.specs.Reading.{Result, units, refused}
 use Rattle.calibrator.specs.declared.Calibrator.{Calibrator}
 use Rattle.calibrator.specs.Feeding.{freshOf}
-use Rattle.calibrator.specs.FeedList.{answerAt, buffersAt}
+use Rattle.feeds.specs.FeedList.{answerAt, buffersAt}
 
 -- t, or what stood there before where there is none
 abbrev pub unitsOr : Result → ℤ → ℤ

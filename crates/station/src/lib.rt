@@ -64,7 +64,7 @@ pub extern "C" fn sounder_feed_all(
         return number;
     }
     let accepted = opened.table();
-    calibrator::feed_list(
+    feeds::feed_list(
         Calibrator::fresh(accepted),
         records,
         record_lengths,

@@ -14,7 +14,7 @@ use Rattle.fields.proofs.LayoutLaws.{first-when-right}
 use Rattle.table.specs.Settings.{tableLayout, settingsOf}
 use Rattle.table.specs.Ranges.{valuesInside}
 use Rattle.table.specs.ValueRanges.{SettingsRange}
-use Rattle.table.specs.Opening.{ages, opening, AcceptedTable, tableBy}
+use Rattle.table.specs.Opening.{ages, tableSize, opening, AcceptedTable, tableBy}
 use Rattle.table.proofs.Ranges.{values-in-range}
 
 -- the layout that `open` lends to the reader of fields
@@ -25,23 +25,23 @@ lent-layout = refl
 -- ---- the answer from the tests
 
 module _ (bytes : List ℕ) where
-  pub opening-length-wrong : (length bytes ≡ 741 → ⊥) → opening bytes ≡ fails 1
+  pub opening-length-wrong : (length bytes ≡ tableSize → ⊥) → opening bytes ≡ fails 1
   unfolding opening
-  opening-length-wrong wrong = rw (ne-eqb (length bytes) 741 wrong)
+  opening-length-wrong wrong = rw (ne-eqb (length bytes) tableSize wrong)
 
-  module _ (long : length bytes ≡ 741) where
+  module _ (long : length bytes ≡ tableSize) where
     pub opening-field-wrong : layoutIsRight bytes 0 (tableLayout ages) ≡ false → opening bytes ≡ fails 2
     unfolding opening
-    opening-field-wrong wrong = rw (eq-eqb (length bytes) 741 long, wrong)
+    opening-field-wrong wrong = rw (eq-eqb (length bytes) tableSize long, wrong)
 
     module _ (right : layoutIsRight bytes 0 (tableLayout ages) ≡ true) where
       pub opening-value-outside : valuesInside (settingsOf ages bytes) ≡ false → opening bytes ≡ fails 3
       unfolding opening
-      opening-value-outside outside = rw (eq-eqb (length bytes) 741 long, right, outside)
+      opening-value-outside outside = rw (eq-eqb (length bytes) tableSize long, right, outside)
 
       pub opening-passes : valuesInside (settingsOf ages bytes) ≡ true → opening bytes ≡ passes
       unfolding opening
-      opening-passes inside = rw (eq-eqb (length bytes) 741 long, right, inside)
+      opening-passes inside = rw (eq-eqb (length bytes) tableSize long, right, inside)
 
 -- ---- the tests from the answer
 
@@ -52,12 +52,12 @@ passed-all long right inside passed =
     (not-false long (none .0), not-false right (none .1 .0), not-false inside (none .1 .1 .0))
 
 module _ {bytes : List ℕ} (table : AcceptedTable bytes) where
-  accepted-tests : (eqb (length bytes) 741 ≡ true) × (layoutIsRight bytes 0 (tableLayout ages) ≡ true) × (valuesInside (settingsOf ages bytes) ≡ true)
+  accepted-tests : (eqb (length bytes) tableSize ≡ true) × (layoutIsRight bytes 0 (tableLayout ages) ≡ true) × (valuesInside (settingsOf ages bytes) ≡ true)
   unfolding opening
-  accepted-tests = passed-all (eqb (length bytes) 741) (layoutIsRight bytes 0 (tableLayout ages)) (valuesInside (settingsOf ages bytes)) (table .accepted)
+  accepted-tests = passed-all (eqb (length bytes) tableSize) (layoutIsRight bytes 0 (tableLayout ages)) (valuesInside (settingsOf ages bytes)) (table .accepted)
 
-  pub accepted-length : length bytes ≡ 741
-  accepted-length = eqb-true (length bytes) 741 (accepted-tests .0)
+  pub accepted-length : length bytes ≡ tableSize
+  accepted-length = eqb-true (length bytes) tableSize (accepted-tests .0)
 
   pub accepted-layout : layoutIsRight bytes 0 (tableLayout ages) ≡ true
   accepted-layout = accepted-tests .1
@@ -83,5 +83,5 @@ accepted-tag {bytes} table =
     let tests = and-eq-true-iff (eqb (getD bytes 0 0) 0x10) _ .0 (first-when-right bytes 0 _ _ (accepted-layout table)) in
     eqb-true (getD bytes 0 0) 0x10 (tests .0)
 
-pub no-table-refused : AcceptedTable (replicate 741 0) → ⊥
+pub no-table-refused : AcceptedTable (replicate tableSize 0) → ⊥
 no-table-refused table = omega (arith, accepted-tag table)

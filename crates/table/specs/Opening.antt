@@ -17,6 +17,9 @@ use Rattle.table.specs.Ranges.{valuesInside}
 abbrev pub ages : ℕ
 ages = 8
 
+abbrev pub tableSize : ℕ
+tableSize = layoutSize (tableLayout ages)
+
 -- document 01's number for each case of the code's answer
 abbrev pub verdictOf : Opening → Verdict
 verdictOf Accepted = passes
@@ -26,14 +29,14 @@ verdictOf ValueOutside = fails 3
 
 unfoldable pub opening : List ℕ → Verdict
 opening bytes =
-    firstThatApplies ((1 when not (eqb (length bytes) (layoutSize (tableLayout ages))))
+    firstThatApplies ((1 when not (eqb (length bytes) tableSize))
     ∷ (2 when not (layoutIsRight bytes 0 (tableLayout ages))) ∷ (3 when not (valuesInside (settingsOf ages bytes))) ∷ [])
 
 -- opening meets no refusal
 pub record AcceptedTable (bytes : List ℕ) : Type 0 where
   pub accepted : opening bytes ≡ passes
 
--- an accepted table is its bytes; beside a refusal stand 741 bytes of 0, of which `AcceptedTable` does not hold (decision 21)
+-- an accepted table is its bytes; beside a refusal stand as many bytes of 0, of which `AcceptedTable` does not hold (decision 21)
 abbrev pub tableBy : Verdict → List ℕ → List ℕ
 tableBy passes bytes = bytes
-tableBy (fails n) bytes = replicate 741 0
+tableBy (fails n) bytes = replicate tableSize 0

@@ -1,16 +1,19 @@
 -- Document 01, "The table": the range of each value and of each sum, in the table's order.
 use Prim.Native.Nat.{ℕ, _+_}
-use mathlib.Core.Bool.{Bool, _&&_, cond}
-use lib.Dec.{leb, ltb}
+use mathlib.Core.List.{[], _∷_}
+use mathlib.Core.Bool.{Bool, _&&_}
+use lib.Dec.{leb}
 use lib.IntN.{ℤ, pos, negℤ}
 use lib.Signed.{leZ}
-use Rattle.lists.specs.Count.{every}
+use Rattle.lists.specs.Count.{every, allHold}
 use Rattle.lists.specs.Sum.{sum}
 use Rattle.thermometer.specs.Reading.{fromTo, resistanceInside, coefficientsInside}
-use Rattle.table.specs.declared.Target.{Target}
-use Rattle.table.specs.declared.Target.the-variants.{Kav, Wg}
+use Rattle.instrument.specs.declared.Side.the-variants.{Warm, Cold}
+use Rattle.instrument.specs.declared.Target.{Target}
+use Rattle.instrument.specs.declared.Target.the-variants.{Kav, Wg}
 use Rattle.table.specs.declared.Thermometer.{Thermometer}
-use Rattle.table.specs.Settings.{Channel, Settings, thermometers, channels}
+use Rattle.table.specs.Settings.{Channel, Settings}
+use Rattle.instrument.specs.Instrument.{thermometers, channels, firstOf, sizeOf}
 
 -- from -m to m
 abbrev pub sizeTo : ℕ → ℤ → Bool
@@ -19,14 +22,14 @@ sizeTo m z = leZ (negℤ (pos m)) z && leZ z (pos m)
 -- percentages 1..100, least good thermometers 1..8 and 1..7
 unfoldable pub leastsInside : Settings → Bool
 leastsInside s =
-    fromTo 1 100 (s .percentThermometers) && (fromTo 1 100 (s .percentWarm) && (fromTo 1 100 (s .percentCold)
-    && (fromTo 1 8 (s .leastKav) && fromTo 1 7 (s .leastWg))))
+    allHold (fromTo 1 100 (s .percentThermometers) ∷ fromTo 1 100 (s .percent Warm) ∷ fromTo 1 100 (s .percent Cold)
+    ∷ fromTo 1 8 (s .least Kav) ∷ fromTo 1 7 (s .least Wg) ∷ [])
 
 -- R_PAM, T_low and T_upp -245,760..245,760 with low not above upp, dT 0..491,520
 unfoldable pub thermometerLimitsInside : Settings → Bool
 thermometerLimitsInside s =
-    resistanceInside (s .rPam)
-    && (sizeTo 245760 (s .tLow) && (sizeTo 245760 (s .tUpp) && (leZ (s .tLow) (s .tUpp) && leb (s .dT) 491520)))
+    allHold (resistanceInside (s .rPam)
+    ∷ sizeTo 245760 (s .tLow) ∷ sizeTo 245760 (s .tUpp) ∷ leZ (s .tLow) (s .tUpp) ∷ leb (s .dT) 491520 ∷ [])
 
 abbrev pub thermometerInside : Thermometer → Bool
 thermometerInside t = coefficientsInside (t .r0) (t .alpha) (t .delta) (t .beta)
@@ -34,21 +37,8 @@ thermometerInside t = coefficientsInside (t .r0) (t .alpha) (t .delta) (t .beta)
 -- limits with low not above upp; b -4,096..4,096; rj and sl 0..16,384; TNL -8,192..8,192
 unfoldable pub channelInside : Channel → Bool
 channelInside c =
-    leb (c .warm .low) (c .warm .upp) && (leb (c .cold .low) (c .cold .upp)
-    && (sizeTo 4096 (c .b) && (leb (c .rj) 16384 && (leb (c .sl) 16384 && sizeTo 8192 (c .tnl)))))
-
--- thermometers 1..8 are KAV and 9..15 are WG: the first of a target, counted from 0, and how many it has
-abbrev pub firstOf : Target → ℕ
-firstOf Kav = 0
-firstOf Wg = 8
-
-abbrev pub sizeOf : Target → ℕ
-sizeOf Kav = 8
-sizeOf Wg = 7
-
--- KAV serves channels 1..15, WG 16..22; channels are counted from 0
-abbrev pub targetOf : ℕ → Target
-targetOf c = cond (ltb c 15) Kav Wg
+    allHold (leb (c .limits Warm .low) (c .limits Warm .upp) ∷ leb (c .limits Cold .low) (c .limits Cold .upp)
+    ∷ sizeTo 4096 (c .b) ∷ leb (c .rj) 16384 ∷ leb (c .sl) 16384 ∷ sizeTo 8192 (c .tnl) ∷ [])
 
 -- the sum of the p of a target
 abbrev pub weightOf : Settings → Target → ℕ
@@ -57,10 +47,10 @@ weightOf s target = sum (λ i. s .thermometer (firstOf target + i) .p) (sizeOf t
 -- the w sum to 1..255, so do the v, so do the p of each target
 unfoldable pub sumsInside : Settings → Bool
 sumsInside s =
-    fromTo 1 255 (sum (s .w) (s .ages)) && (fromTo 1 255 (sum (s .v) (s .ages))
-    && (fromTo 1 255 (weightOf s Kav) && fromTo 1 255 (weightOf s Wg)))
+    allHold (fromTo 1 255 (sum (s .w) (s .ages)) ∷ fromTo 1 255 (sum (s .v) (s .ages))
+    ∷ fromTo 1 255 (weightOf s Kav) ∷ fromTo 1 255 (weightOf s Wg) ∷ [])
 
 unfoldable pub valuesInside : Settings → Bool
 valuesInside s =
-    leastsInside s && (thermometerLimitsInside s
-    && (every (λ i. thermometerInside (s .thermometer i)) thermometers && (every (λ c. channelInside (s .channel c)) channels && sumsInside s)))
+    allHold (leastsInside s ∷ thermometerLimitsInside s
+    ∷ every (λ i. thermometerInside (s .thermometer i)) thermometers ∷ every (λ c. channelInside (s .channel c)) channels ∷ sumsInside s ∷ [])

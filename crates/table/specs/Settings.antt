@@ -1,15 +1,13 @@
 -- Document 01, "The table, 741 bytes": what a table's bytes say. `ages` is how many scans the window has; document 01 has 8.
--- Thermometers and channels are counted from 0 here: thermometer i is document 01's number i + 1, and so is channel c.
 use Prim.Native.Nat.{ℕ, _+_, _*_}
 use mathlib.Core.List.{List, [], _∷_}
 use lib.IntN.{ℤ}
 use lib.ListN.{getD}
 use Rattle.fields.specs.Numbers.{u16At, u32At, i16At, i32At}
 use Rattle.fields.specs.Fields.{Field, valueStart, field}
-use Rattle.table.specs.declared.Side.{Side}
-use Rattle.table.specs.declared.Side.the-variants.{Warm, Cold}
-use Rattle.table.specs.declared.Target.{Target}
-use Rattle.table.specs.declared.Target.the-variants.{Kav, Wg}
+use Rattle.instrument.specs.declared.Side.{Side}
+use Rattle.instrument.specs.declared.Target.{Target}
+use Rattle.instrument.specs.Instrument.{sidePlace, targetPlace}
 use Rattle.table.specs.declared.Limits.{Limits}
 use Rattle.table.specs.declared.Thermometer.{Thermometer}
 use Rattle.table.specs.declared.Corrections.{Corrections}
@@ -18,16 +16,16 @@ use Rattle.table.specs.declared.Corrections.{Corrections}
 abbrev pub tableLayout : ℕ → List Field
 tableLayout ages = field 0x10 (2 * ages + 21) ∷ field 0x11 255 ∷ field 0x12 440 ∷ []
 
-abbrev pub thermometers : ℕ
-thermometers = 15
+-- the bytes of one thermometer's row of 0x11, and of one channel's row of 0x12
+abbrev pub thermometerRow : ℕ
+thermometerRow = 17
 
-abbrev pub channels : ℕ
-channels = 22
+abbrev pub channelRow : ℕ
+channelRow = 20
 
 -- one channel's row of 0x12
 pub record Channel : Type 0 where
-  pub warm : Limits
-  pub cold : Limits
+  pub limits : Side → Limits
   pub b : ℤ
   pub rj : ℕ
   pub sl : ℕ
@@ -40,11 +38,9 @@ pub record Settings : Type 0 where
   pub v : ℕ → ℕ
   -- least percentages
   pub percentThermometers : ℕ
-  pub percentWarm : ℕ
-  pub percentCold : ℕ
+  pub percent : Side → ℕ
   -- least good thermometers
-  pub leastKav : ℕ
-  pub leastWg : ℕ
+  pub least : Target → ℕ
   pub rPam : ℕ
   pub tLow : ℤ
   pub tUpp : ℤ
@@ -62,7 +58,7 @@ thermometerAt table at =
 
 abbrev pub channelAt : List ℕ → ℕ → Channel
 channelAt table at =
-    record { warm = limitsAt table at; cold = limitsAt table (at + 6); b = i16At table (at + 12); rj = u16At table (at + 14); sl = u16At table (at + 16); tnl = i16At table (at + 18) }
+    record { limits = λ side. limitsAt table (at + 6 * sidePlace side); b = i16At table (at + 12); rj = u16At table (at + 14); sl = u16At table (at + 16); tnl = i16At table (at + 18) }
 
 abbrev pub settingsOf : ℕ → List ℕ → Settings
 settingsOf ages table =
@@ -72,31 +68,16 @@ settingsOf ages table =
       w = λ k. getD table (start + k) 0;
       v = λ k. getD table (start + ages + k) 0;
       percentThermometers = getD table (start + 2 * ages) 0;
-      percentWarm = getD table (start + 2 * ages + 1) 0;
-      percentCold = getD table (start + 2 * ages + 2) 0;
-      leastKav = getD table (start + 2 * ages + 3) 0;
-      leastWg = getD table (start + 2 * ages + 4) 0;
+      percent = λ side. getD table (start + 2 * ages + 1 + sidePlace side) 0;
+      least = λ target. getD table (start + 2 * ages + 3 + targetPlace target) 0;
       rPam = u32At table (start + 2 * ages + 5);
       tLow = i32At table (start + 2 * ages + 9);
       tUpp = i32At table (start + 2 * ages + 13);
       dT = u32At table (start + 2 * ages + 17);
-      thermometer = λ i. thermometerAt table (valueStart (tableLayout ages) 1 + 17 * i);
-      channel = λ c. channelAt table (valueStart (tableLayout ages) 2 + 20 * c);
+      thermometer = λ i. thermometerAt table (valueStart (tableLayout ages) 1 + thermometerRow * i);
+      channel = λ c. channelAt table (valueStart (tableLayout ages) 2 + channelRow * c);
     }
 
--- the limits of a channel's side, and the least number of a target
-abbrev pub limitsOf : Channel → Side → Limits
-limitsOf c Warm = c .warm
-limitsOf c Cold = c .cold
-
-abbrev pub leastOf : Settings → Target → ℕ
-leastOf s Kav = s .leastKav
-leastOf s Wg = s .leastWg
-
--- the least percentage of a side, and what a channel's temperatures are corrected by
-abbrev pub percentOf : Settings → Side → ℕ
-percentOf s Warm = s .percentWarm
-percentOf s Cold = s .percentCold
-
+-- what a channel's temperatures are corrected by
 abbrev pub correctionsOf : Channel → Corrections
 correctionsOf c = record { b = c .b; rj = c .rj; sl = c .sl; tnl = c .tnl }

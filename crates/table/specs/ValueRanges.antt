@@ -5,9 +5,11 @@ use lib.Signed.{_≤ℤ_}
 use Rattle.integers.specs.Bounds.{Bounded}
 use Rattle.lists.specs.Sum.{sum}
 use Rattle.thermometer.specs.Ranges.{Admissible}
-use Rattle.table.specs.declared.Target.{Target}
+use Rattle.instrument.specs.declared.Side.{Side}
+use Rattle.instrument.specs.declared.Target.{Target}
 use Rattle.table.specs.declared.Thermometer.{Thermometer}
-use Rattle.table.specs.Settings.{Channel, Settings, thermometers, channels}
+use Rattle.table.specs.Settings.{Channel, Settings}
+use Rattle.instrument.specs.Instrument.{thermometers, channels, sizeOf}
 use Rattle.table.specs.Ranges.{weightOf}
 
 abbrev pub Between : ℕ → ℕ → ℕ → Type 0
@@ -18,8 +20,7 @@ pub record ThermometerRange (t : Thermometer) : Type 0 where
   pub coefficients : Admissible (t .alpha) (t .delta) (t .beta)
 
 pub record ChannelRange (c : Channel) : Type 0 where
-  pub warm : c .warm .low ≤ c .warm .upp
-  pub cold : c .cold .low ≤ c .cold .upp
+  pub limits : (side : Side) → c .limits side .low ≤ c .limits side .upp
   pub b : Bounded (c .b) (pos 4096)
   pub rj : c .rj ≤ 16384
   pub sl : c .sl ≤ 16384
@@ -27,10 +28,8 @@ pub record ChannelRange (c : Channel) : Type 0 where
 
 pub record SettingsRange (s : Settings) : Type 0 where
   pub percentThermometers : Between 1 100 (s .percentThermometers)
-  pub percentWarm : Between 1 100 (s .percentWarm)
-  pub percentCold : Between 1 100 (s .percentCold)
-  pub leastKav : Between 1 8 (s .leastKav)
-  pub leastWg : Between 1 7 (s .leastWg)
+  pub percent : (side : Side) → Between 1 100 (s .percent side)
+  pub least : (target : Target) → Between 1 (sizeOf target) (s .least target)
   pub rPam : Between 1000 4000000 (s .rPam)
   pub tLow : Bounded (s .tLow) (pos 245760)
   pub tUpp : Bounded (s .tUpp) (pos 245760)

@@ -2,17 +2,63 @@
 ghost use mathlib.Core.Path.{_≡_};
 ghost use Prim.Native.Nat.{_+_, _*_, _<_, _≤_};
 ghost use lib.ListN.{length, getD, replicate};
+ghost use lib.Signed.{leZ};
 ghost use Rattle.lists.specs.Sum.{sum};
 ghost use Rattle.lists.specs.Count.{every};
 ghost use Rattle.lists.specs.Tests.{numberOf};
+ghost use Rattle.instrument.specs.Instrument.{thermometers, channels};
 ghost use Rattle.thermometer.specs.Reading.{fromTo};
-ghost use Rattle.table.specs.Settings.{settingsOf, channelAt, thermometerAt, limitsAt, limitsOf, leastOf, percentOf, correctionsOf, thermometers, channels};
-ghost use Rattle.table.specs.Ranges.{sizeTo, leastsInside, thermometerLimitsInside, thermometerInside, channelInside, sumsInside, valuesInside, firstOf, sizeOf, weightOf, targetOf};
-ghost use Rattle.table.specs.Opening.{ages, verdictOf, opening, tableBy};
+ghost use Rattle.table.specs.Settings.{settingsOf, correctionsOf};
+ghost use Rattle.table.specs.Ranges.{sizeTo, leastsInside, thermometerLimitsInside, thermometerInside, channelInside, sumsInside, valuesInside, weightOf};
+ghost use Rattle.table.specs.Opening.{ages, tableSize, verdictOf, opening, tableBy};
+ghost use Rattle.table.specs.Steps.{rowCount, rowInside};
+use fields::HEAD;
+use instrument::CHANNELS;
+use instrument::Side;
+use instrument::THERMOMETERS;
+use instrument::Target;
+
+// How many scans the window has: a weight of each group for each age.
+pub const AGES: usize = 8;
+
+// The layout, and where the value of each field starts.
+const TAGS: [u8; 3] = [0x10, 0x11, 0x12];
+
+const SIZES: [u16; 3] = [2 * AGES as u16 + 21, 255, 440];
+
+const SETTINGS_AT: usize = HEAD;
+
+const THERMOMETERS_AT: usize = SETTINGS_AT + SIZES[0] as usize + HEAD;
+
+const CHANNELS_AT: usize = THERMOMETERS_AT + SIZES[1] as usize + HEAD;
+
+pub const TABLE_SIZE: usize = CHANNELS_AT + SIZES[2] as usize;
+
+// The bytes of one thermometer's row and of one channel's.
+const THERMOMETER_ROW: usize = 17;
+
+const CHANNEL_ROW: usize = 20;
+
+// Where the values of the first field stand.
+const COUNT_WEIGHTS_AT: usize = SETTINGS_AT;
+
+const THERMOMETER_WEIGHTS_AT: usize = SETTINGS_AT + AGES;
+
+const PERCENTS_AT: usize = SETTINGS_AT + 2 * AGES;
+
+const LEASTS_AT: usize = PERCENTS_AT + 3;
+
+const R_PAM_AT: usize = LEASTS_AT + 2;
+
+const T_LOW_AT: usize = R_PAM_AT + 4;
+
+const T_UPP_AT: usize = T_LOW_AT + 4;
+
+const D_T_AT: usize = T_UPP_AT + 4;
 
 // An opened table. Only `open` makes one.
 pub struct Table {
-    bytes: [u8; 741],
+    bytes: [u8; TABLE_SIZE],
 }
 
 // Why a table is refused, or that it is accepted.
@@ -29,16 +75,10 @@ pub struct Opened {
     table: Table,
 }
 
-// Warm counts or cold counts.
-pub enum Side {
-    Warm,
-    Cold,
-}
-
-// The warm targets: KAV for channels 1 to 15, WG for 16 to 22.
-pub enum Target {
-    Kav,
-    Wg,
+// The rows of a table.
+enum Rows {
+    OfThermometers,
+    OfChannels,
 }
 
 // The limits of four counts, and how far a count may be from another.
@@ -65,10 +105,6 @@ pub struct Corrections {
     pub tnl: i64,
 }
 
-const TAGS: [u8; 3] = [0x10, 0x11, 0x12];
-
-const SIZES: [u16; 3] = [37, 255, 440];
-
 fn from_to(low: u32, high: u32, x: u32) -> bool
     ensures { λ b. ⌜ b ≡ fromTo low high x ⌝ }
 {
@@ -88,167 +124,203 @@ fn size_to(most: u32, z: i64) -> bool
     z <= m
 }
 
+// Whether a is at most b.
+fn at_most(a: i64, b: i64) -> bool
+    ensures { λ t. ⌜ t ≡ leZ a b ⌝ }
+{
+    a <= b
+}
+
+// w of age k, and v.
+pub fn count_weight(table: &[u8], k: usize) -> u8
+    requires { ⌜ (length (now table) ≡ tableSize) × (k < ages) ⌝ }
+    ensures { λ r. ⌜ r ≡ settingsOf ages (now (table .entry)) .w k ⌝ }
+{
+    table[COUNT_WEIGHTS_AT + k]
+}
+
+pub fn thermometer_weight(table: &[u8], k: usize) -> u8
+    requires { ⌜ (length (now table) ≡ tableSize) × (k < ages) ⌝ }
+    ensures { λ r. ⌜ r ≡ settingsOf ages (now (table .entry)) .v k ⌝ }
+{
+    table[THERMOMETER_WEIGHTS_AT + k]
+}
+
+// The least percentages, and the least number of good thermometers of a target.
+pub fn percent_thermometers(table: &[u8]) -> u8
+    requires { ⌜ length (now table) ≡ tableSize ⌝ }
+    ensures { λ r. ⌜ r ≡ settingsOf ages (now (table .entry)) .percentThermometers ⌝ }
+{
+    table[PERCENTS_AT]
+}
+
+pub fn percent_of(table: &[u8], side: Side) -> u8
+    requires { ⌜ length (now table) ≡ tableSize ⌝ }
+    ensures { λ r. ⌜ r ≡ settingsOf ages (now (table .entry)) .percent side ⌝ }
+{
+    let at = PERCENTS_AT + 1 + instrument::side_place(side);
+    table[at]
+}
+
+pub fn least_of(table: &[u8], target: Target) -> u8
+    requires { ⌜ length (now table) ≡ tableSize ⌝ }
+    ensures { λ r. ⌜ r ≡ settingsOf ages (now (table .entry)) .least target ⌝ }
+{
+    let at = LEASTS_AT + instrument::target_place(target);
+    table[at]
+}
+
 fn leasts_inside(table: &[u8]) -> bool
-    requires { ⌜ length (now table) ≡ 741 ⌝ }
+    requires { ⌜ length (now table) ≡ tableSize ⌝ }
     ensures { λ b. ⌜ b ≡ leastsInside (settingsOf ages (now (table .entry))) ⌝ }
 {
-    if !from_to(1, 100, table[19] as u32) {
-        return false;
-    }
-    if !from_to(1, 100, table[20] as u32) {
-        return false;
-    }
-    if !from_to(1, 100, table[21] as u32) {
-        return false;
-    }
-    if !from_to(1, 8, table[22] as u32) {
-        return false;
-    }
-    from_to(1, 7, table[23] as u32)
+    let tests = [
+        from_to(1, 100, percent_thermometers(table) as u32),
+        from_to(1, 100, percent_of(table, Side::Warm) as u32),
+        from_to(1, 100, percent_of(table, Side::Cold) as u32),
+        from_to(1, 8, least_of(table, Target::Kav) as u32),
+        from_to(1, 7, least_of(table, Target::Wg) as u32),
+    ];
+    lists::all_hold(&tests)
 }
 
 pub fn r_pam(table: &[u8]) -> u32
-    requires { ⌜ length (now table) ≡ 741 ⌝ }
+    requires { ⌜ length (now table) ≡ tableSize ⌝ }
     ensures { λ r. ⌜ r ≡ settingsOf ages (now (table .entry)) .rPam ⌝ }
 {
-    fields::u32_at(table, 24)
+    fields::u32_at(table, R_PAM_AT)
 }
 
 pub fn t_low(table: &[u8]) -> i64
-    requires { ⌜ length (now table) ≡ 741 ⌝ }
+    requires { ⌜ length (now table) ≡ tableSize ⌝ }
     ensures { λ r. ⌜ r ≡ settingsOf ages (now (table .entry)) .tLow ⌝ }
 {
-    fields::i32_at(table, 28)
+    fields::i32_at(table, T_LOW_AT)
 }
 
 pub fn t_upp(table: &[u8]) -> i64
-    requires { ⌜ length (now table) ≡ 741 ⌝ }
+    requires { ⌜ length (now table) ≡ tableSize ⌝ }
     ensures { λ r. ⌜ r ≡ settingsOf ages (now (table .entry)) .tUpp ⌝ }
 {
-    fields::i32_at(table, 32)
+    fields::i32_at(table, T_UPP_AT)
 }
 
 pub fn d_t(table: &[u8]) -> u32
-    requires { ⌜ length (now table) ≡ 741 ⌝ }
+    requires { ⌜ length (now table) ≡ tableSize ⌝ }
     ensures { λ r. ⌜ r ≡ settingsOf ages (now (table .entry)) .dT ⌝ }
 {
-    fields::u32_at(table, 36)
+    fields::u32_at(table, D_T_AT)
 }
 
 fn thermometer_limits_inside(table: &[u8]) -> bool
-    requires { ⌜ length (now table) ≡ 741 ⌝ }
+    requires { ⌜ length (now table) ≡ tableSize ⌝ }
     ensures { λ b. ⌜ b ≡ thermometerLimitsInside (settingsOf ages (now (table .entry))) ⌝ }
 {
-    if !thermometer::resistance_inside(r_pam(table)) {
-        return false;
-    }
     let low = t_low(table);
-    if !size_to(245_760, low) {
-        return false;
-    }
     let upp = t_upp(table);
-    if !size_to(245_760, upp) {
-        return false;
-    }
-    if upp < low {
-        return false;
-    }
-    d_t(table) <= 491_520
-}
-
-// The row that `row` begins with.
-fn thermometer_row(row: &[u8]) -> Thermometer
-    requires { ⌜ 17 ≤ length (now row) ⌝ }
-    ensures { λ t. ⌜ t ≡ thermometerAt (now (row .entry)) 0 ⌝ }
-{
-    Thermometer {
-        p: row[0],
-        r0: fields::u32_at(row, 1),
-        alpha: fields::u32_at(row, 5),
-        delta: fields::u32_at(row, 9),
-        beta: fields::u32_at(row, 13),
-    }
+    let tests = [
+        thermometer::resistance_inside(r_pam(table)),
+        size_to(245_760, low),
+        size_to(245_760, upp),
+        at_most(low, upp),
+        d_t(table) <= 491_520,
+    ];
+    lists::all_hold(&tests)
 }
 
 // Thermometer i, counted from 0.
 pub fn thermometer_of(table: &[u8], i: usize) -> Thermometer
-    requires { ⌜ (length (now table) ≡ 741) × (i < thermometers) ⌝ }
+    requires { ⌜ (length (now table) ≡ tableSize) × (i < thermometers) ⌝ }
     ensures { λ t. ⌜ t ≡ settingsOf ages (now (table .entry)) .thermometer i ⌝ }
 {
-    let start = 43 + 17 * i;
-    thermometer_row(&table[start..])
+    let at = THERMOMETERS_AT + THERMOMETER_ROW * i;
+    Thermometer {
+        p: table[at],
+        r0: fields::u32_at(table, at + 1),
+        alpha: fields::u32_at(table, at + 5),
+        delta: fields::u32_at(table, at + 9),
+        beta: fields::u32_at(table, at + 13),
+    }
 }
 
-fn thermometers_inside(table: &[u8]) -> bool
-    requires { ⌜ length (now table) ≡ 741 ⌝ }
-    ensures { λ b. ⌜ b ≡ every (λ i. thermometerInside (settingsOf ages (now (table .entry)) .thermometer i)) thermometers ⌝ }
+fn thermometer_inside(table: &[u8], i: usize) -> bool
+    requires { ⌜ (length (now table) ≡ tableSize) × (i < thermometers) ⌝ }
+    ensures { λ b. ⌜ b ≡ thermometerInside (settingsOf ages (now (table .entry)) .thermometer i) ⌝ }
 {
-    for i in 0..15usize {
-        let t = thermometer_of(table, i);
-        if !thermometer::coefficients_inside(t.r0, t.alpha, t.delta, t.beta) {
-            return false;
-        }
-    }
-    true
-}
-
-// The limits that `row` begins with.
-fn limits_row(row: &[u8]) -> Limits
-    requires { ⌜ 6 ≤ length (now row) ⌝ }
-    ensures { λ l. ⌜ l ≡ limitsAt (now (row .entry)) 0 ⌝ }
-{
-    Limits {
-        low: fields::u16_at(row, 0),
-        upp: fields::u16_at(row, 2),
-        difference: fields::u16_at(row, 4),
-    }
+    let t = thermometer_of(table, i);
+    thermometer::coefficients_inside(t.r0, t.alpha, t.delta, t.beta)
 }
 
 // The limits of a side of channel c, counted from 0.
 pub fn limits_of(table: &[u8], c: usize, side: Side) -> Limits
-    requires { ⌜ (length (now table) ≡ 741) × (c < channels) ⌝ }
-    ensures { λ l. ⌜ l ≡ limitsOf (settingsOf ages (now (table .entry)) .channel c) side ⌝ }
+    requires { ⌜ (length (now table) ≡ tableSize) × (c < channels) ⌝ }
+    ensures { λ l. ⌜ l ≡ settingsOf ages (now (table .entry)) .channel c .limits side ⌝ }
 {
-    let start = 301 + 20 * c;
-    match side {
-        Side::Warm => limits_row(&table[start..]),
-        Side::Cold => {
-            let cold = start + 6;
-            limits_row(&table[cold..])
-        }
+    let at = CHANNELS_AT + CHANNEL_ROW * c + 6 * instrument::side_place(side);
+    Limits {
+        low: fields::u16_at(table, at),
+        upp: fields::u16_at(table, at + 2),
+        difference: fields::u16_at(table, at + 4),
     }
 }
 
-// Whether the channel that `row` begins with is in its ranges.
-fn channel_inside(row: &[u8]) -> bool
-    requires { ⌜ 20 ≤ length (now row) ⌝ }
-    ensures { λ b. ⌜ b ≡ channelInside (channelAt (now (row .entry)) 0) ⌝ }
+// b, rj, sl and TNL of channel c.
+pub fn corrections_of(table: &[u8], c: usize) -> Corrections
+    requires { ⌜ (length (now table) ≡ tableSize) × (c < channels) ⌝ }
+    ensures { λ r. ⌜ r ≡ correctionsOf (settingsOf ages (now (table .entry)) .channel c) ⌝ }
 {
-    if fields::u16_at(row, 2) < fields::u16_at(row, 0) {
-        return false;
+    let at = CHANNELS_AT + CHANNEL_ROW * c;
+    Corrections {
+        b: fields::i16_at(table, at + 12),
+        rj: fields::u16_at(table, at + 14),
+        sl: fields::u16_at(table, at + 16),
+        tnl: fields::i16_at(table, at + 18),
     }
-    if fields::u16_at(row, 8) < fields::u16_at(row, 6) {
-        return false;
-    }
-    if !size_to(4_096, fields::i16_at(row, 12)) {
-        return false;
-    }
-    if 16_384 < fields::u16_at(row, 14) {
-        return false;
-    }
-    if 16_384 < fields::u16_at(row, 16) {
-        return false;
-    }
-    size_to(8_192, fields::i16_at(row, 18))
 }
 
-fn channels_inside(table: &[u8]) -> bool
-    requires { ⌜ length (now table) ≡ 741 ⌝ }
-    ensures { λ b. ⌜ b ≡ every (λ c. channelInside (settingsOf ages (now (table .entry)) .channel c)) channels ⌝ }
+fn channel_inside(table: &[u8], c: usize) -> bool
+    requires { ⌜ (length (now table) ≡ tableSize) × (c < channels) ⌝ }
+    ensures { λ b. ⌜ b ≡ channelInside (settingsOf ages (now (table .entry)) .channel c) ⌝ }
 {
-    for c in 0..22usize {
-        let start = 301 + 20 * c;
-        if !channel_inside(&table[start..]) {
+    let warm = limits_of(table, c, Side::Warm);
+    let cold = limits_of(table, c, Side::Cold);
+    let k = corrections_of(table, c);
+    let tests = [
+        warm.low <= warm.upp,
+        cold.low <= cold.upp,
+        size_to(4_096, k.b),
+        k.rj <= 16_384,
+        k.sl <= 16_384,
+        size_to(8_192, k.tnl),
+    ];
+    lists::all_hold(&tests)
+}
+
+fn row_count(rows: Rows) -> usize
+    ensures { λ n. ⌜ n ≡ rowCount rows ⌝ }
+{
+    match rows {
+        Rows::OfThermometers => THERMOMETERS,
+        Rows::OfChannels => CHANNELS,
+    }
+}
+
+fn row_inside(table: &[u8], rows: Rows, i: usize) -> bool
+    requires { ⌜ (length (now table) ≡ tableSize) × (i < rowCount rows) ⌝ }
+    ensures { λ b. ⌜ b ≡ rowInside (settingsOf ages (now (table .entry))) rows i ⌝ }
+{
+    match rows {
+        Rows::OfThermometers => thermometer_inside(table, i),
+        Rows::OfChannels => channel_inside(table, i),
+    }
+}
+
+fn rows_inside(table: &[u8], rows: Rows) -> bool
+    requires { ⌜ length (now table) ≡ tableSize ⌝ }
+    ensures { λ b. ⌜ b ≡ every (rowInside (settingsOf ages (now (table .entry))) rows) (rowCount rows) ⌝ }
+{
+    for i in 0..row_count(rows) {
+        if !row_inside(table, rows, i) {
             return false;
         }
     }
@@ -257,7 +329,7 @@ fn channels_inside(table: &[u8]) -> bool
 
 // The sum of n bytes that stand `step` apart, the first at `at`.
 fn byte_sum(table: &[u8], at: usize, step: usize, n: usize) -> u32
-    requires { ⌜ (length (now table) ≡ 741) × (1 ≤ step) × (n ≤ 15) × (at + step * n ≤ 741) ⌝ }
+    requires { ⌜ (1 ≤ step) × (n ≤ 255) × (at + step * n ≤ length (now table)) ⌝ }
     ensures { λ r. ⌜ r ≡ sum (λ k. getD (now (table .entry)) (at + step * k) 0) n ⌝ }
 {
     let mut total = 0u32;
@@ -269,152 +341,54 @@ fn byte_sum(table: &[u8], at: usize, step: usize, n: usize) -> u32
     total
 }
 
-fn sums_inside(table: &[u8]) -> bool
-    requires { ⌜ length (now table) ≡ 741 ⌝ }
-    ensures { λ b. ⌜ b ≡ sumsInside (settingsOf ages (now (table .entry))) ⌝ }
-{
-    if !from_to(1, 255, byte_sum(table, 3, 1, 8)) {
-        return false;
-    }
-    if !from_to(1, 255, byte_sum(table, 11, 1, 8)) {
-        return false;
-    }
-    if !from_to(1, 255, byte_sum(table, 43, 17, 8)) {
-        return false;
-    }
-    from_to(1, 255, byte_sum(table, 179, 17, 7))
-}
-
-fn values_inside(table: &[u8]) -> bool
-    requires { ⌜ length (now table) ≡ 741 ⌝ }
-    ensures { λ b. ⌜ b ≡ valuesInside (settingsOf ages (now (table .entry))) ⌝ }
-{
-    if !leasts_inside(table) {
-        return false;
-    }
-    if !thermometer_limits_inside(table) {
-        return false;
-    }
-    if !thermometers_inside(table) {
-        return false;
-    }
-    if !channels_inside(table) {
-        return false;
-    }
-    sums_inside(table)
-}
-
-// The least number of good thermometers of a target.
-pub fn least_of(table: &[u8], target: Target) -> u8
-    requires { ⌜ length (now table) ≡ 741 ⌝ }
-    ensures { λ r. ⌜ r ≡ leastOf (settingsOf ages (now (table .entry))) target ⌝ }
-{
-    match target {
-        Target::Kav => table[22],
-        Target::Wg => table[23],
-    }
-}
-
-// ---- what the window needs
-
-// w of age k, and v.
-pub fn count_weight(table: &[u8], k: usize) -> u8
-    requires { ⌜ (length (now table) ≡ 741) × (k < ages) ⌝ }
-    ensures { λ r. ⌜ r ≡ settingsOf ages (now (table .entry)) .w k ⌝ }
-{
-    table[3 + k]
-}
-
-pub fn thermometer_weight(table: &[u8], k: usize) -> u8
-    requires { ⌜ (length (now table) ≡ 741) × (k < ages) ⌝ }
-    ensures { λ r. ⌜ r ≡ settingsOf ages (now (table .entry)) .v k ⌝ }
-{
-    table[11 + k]
-}
-
 // The sums of the w, of the v and of the p of a target.
 pub fn sum_w(table: &[u8]) -> u32
-    requires { ⌜ length (now table) ≡ 741 ⌝ }
+    requires { ⌜ length (now table) ≡ tableSize ⌝ }
     ensures { λ r. ⌜ r ≡ sum (settingsOf ages (now (table .entry)) .w) ages ⌝ }
 {
-    byte_sum(table, 3, 1, 8)
+    byte_sum(table, COUNT_WEIGHTS_AT, 1, AGES)
 }
 
 pub fn sum_v(table: &[u8]) -> u32
-    requires { ⌜ length (now table) ≡ 741 ⌝ }
+    requires { ⌜ length (now table) ≡ tableSize ⌝ }
     ensures { λ r. ⌜ r ≡ sum (settingsOf ages (now (table .entry)) .v) ages ⌝ }
 {
-    byte_sum(table, 11, 1, 8)
+    byte_sum(table, THERMOMETER_WEIGHTS_AT, 1, AGES)
 }
 
 pub fn sum_p(table: &[u8], target: Target) -> u32
-    requires { ⌜ length (now table) ≡ 741 ⌝ }
+    requires { ⌜ length (now table) ≡ tableSize ⌝ }
     ensures { λ r. ⌜ r ≡ weightOf (settingsOf ages (now (table .entry))) target ⌝ }
 {
-    match target {
-        Target::Kav => byte_sum(table, 43, 17, 8),
-        Target::Wg => byte_sum(table, 179, 17, 7),
-    }
+    let at = THERMOMETERS_AT + THERMOMETER_ROW * instrument::first_of(target);
+    byte_sum(table, at, THERMOMETER_ROW, instrument::size_of(target))
 }
 
-// The least percentages.
-pub fn percent_thermometers(table: &[u8]) -> u8
-    requires { ⌜ length (now table) ≡ 741 ⌝ }
-    ensures { λ r. ⌜ r ≡ settingsOf ages (now (table .entry)) .percentThermometers ⌝ }
+fn sums_inside(table: &[u8]) -> bool
+    requires { ⌜ length (now table) ≡ tableSize ⌝ }
+    ensures { λ b. ⌜ b ≡ sumsInside (settingsOf ages (now (table .entry))) ⌝ }
 {
-    table[19]
+    let tests = [
+        from_to(1, 255, sum_w(table)),
+        from_to(1, 255, sum_v(table)),
+        from_to(1, 255, sum_p(table, Target::Kav)),
+        from_to(1, 255, sum_p(table, Target::Wg)),
+    ];
+    lists::all_hold(&tests)
 }
 
-pub fn percent_of(table: &[u8], side: Side) -> u8
-    requires { ⌜ length (now table) ≡ 741 ⌝ }
-    ensures { λ r. ⌜ r ≡ percentOf (settingsOf ages (now (table .entry))) side ⌝ }
+fn values_inside(table: &[u8]) -> bool
+    requires { ⌜ length (now table) ≡ tableSize ⌝ }
+    ensures { λ b. ⌜ b ≡ valuesInside (settingsOf ages (now (table .entry))) ⌝ }
 {
-    match side {
-        Side::Warm => table[20],
-        Side::Cold => table[21],
-    }
-}
-
-// b, rj, sl and TNL of channel c.
-pub fn corrections_of(table: &[u8], c: usize) -> Corrections
-    requires { ⌜ (length (now table) ≡ 741) × (c < channels) ⌝ }
-    ensures { λ r. ⌜ r ≡ correctionsOf (settingsOf ages (now (table .entry)) .channel c) ⌝ }
-{
-    let start = 301 + 20 * c;
-    Corrections {
-        b: fields::i16_at(table, start + 12),
-        rj: fields::u16_at(table, start + 14),
-        sl: fields::u16_at(table, start + 16),
-        tnl: fields::i16_at(table, start + 18),
-    }
-}
-
-// A target's first thermometer, how many it has, and the target that serves channel c.
-pub fn first_of(target: Target) -> usize
-    ensures { λ n. ⌜ n ≡ firstOf target ⌝ }
-{
-    match target {
-        Target::Kav => 0,
-        Target::Wg => 8,
-    }
-}
-
-pub fn size_of(target: Target) -> usize
-    ensures { λ n. ⌜ n ≡ sizeOf target ⌝ }
-{
-    match target {
-        Target::Kav => 8,
-        Target::Wg => 7,
-    }
-}
-
-pub fn target_of(c: usize) -> Target
-    ensures { λ t. ⌜ t ≡ targetOf c ⌝ }
-{
-    if c < 15 {
-        return Target::Kav;
-    }
-    Target::Wg
+    let tests = [
+        leasts_inside(table),
+        thermometer_limits_inside(table),
+        rows_inside(table, Rows::OfThermometers),
+        rows_inside(table, Rows::OfChannels),
+        sums_inside(table),
+    ];
+    lists::all_hold(&tests)
 }
 
 // Document 01's number for an answer; 0 for an accepted table.
@@ -431,11 +405,13 @@ pub fn refusal_number(answer: Opening) -> u8
 
 // A refusal gives no table: its bytes are all 0.
 fn refused(answer: Opening) -> Opened
-    ensures { λ r. ⌜ (r .answer ≡ answer) × (r .table .bytes ≡ replicate 741 0) ⌝ }
+    ensures { λ r. ⌜ (r .answer ≡ answer) × (r .table .bytes ≡ replicate tableSize 0) ⌝ }
 {
     Opened {
         answer,
-        table: Table { bytes: [0; 741] },
+        table: Table {
+            bytes: [0; TABLE_SIZE],
+        },
     }
 }
 
@@ -443,7 +419,7 @@ fn refused(answer: Opening) -> Opened
 pub fn open(bytes: &[u8]) -> Opened
     ensures { λ r. ⌜ (verdictOf (r .answer) ≡ opening (now (bytes .entry))) × (r .table .bytes ≡ tableBy (opening (now (bytes .entry))) (now (bytes .entry))) ⌝ }
 {
-    if bytes.len() != 741 {
+    if bytes.len() != TABLE_SIZE {
         return refused(Opening::LengthWrong);
     }
     if !fields::layout_is_right(bytes, &TAGS, &SIZES) {
@@ -452,7 +428,7 @@ pub fn open(bytes: &[u8]) -> Opened
     if !values_inside(bytes) {
         return refused(Opening::ValueOutside);
     }
-    let mut copy = [0u8; 741];
+    let mut copy = [0u8; TABLE_SIZE];
     bytes::copy(bytes, &mut copy);
     Opened {
         answer: Opening::Accepted,
@@ -471,7 +447,7 @@ impl Opened {
 
 impl Table {
     // The bytes, for the readers above.
-    pub fn bytes(self) -> [u8; 741]
+    pub fn bytes(self) -> [u8; TABLE_SIZE]
         ensures { λ r. ⌜ r ≡ self .bytes ⌝ }
     {
         self.bytes

@@ -1,23 +1,24 @@
 -- `comparison::compared_kept` meets its contract: each return is the value of the scan that `accepted_scan` ensures, at the place that
 -- the tests found. Assumes nothing.
 use mathlib.Core.Path.{_≡_, ap, _∙_}
-use Prim.Native.Nat.{ℕ, _-_, _<_, _≤_}
+use Prim.Native.Nat.{ℕ, _-_, _*_, _<_, _≤_}
 use lib.ListN.{getD}
 use borrow.Author.Tests.{lt-ltb, le-ltb}
 use Rattle.acceptance.specs.declared.Scan.{Scan}
+use Rattle.instrument.specs.Instrument.{channels}
 use Rattle.comparison.specs.KeptValues.{keptAt}
 use borrow.Author.Needs.{needs}
 use Rattle.comparison.proofs.compared_kept.Statement.{statement}
 use Rattle.comparison.proofs.compared_kept.Tie as tie
 
-warm-at : (scan : Scan) (k : ℕ) → k < 22 → getD (scan .warm) k 0 ≡ keptAt scan k
-warm-at scan k h = rw (lt-ltb k 22 h)
+warm-at : (scan : Scan) (k : ℕ) → k < channels → getD (scan .warm) k 0 ≡ keptAt scan k
+warm-at scan k h = rw (lt-ltb k channels h)
 
-cold-at : (scan : Scan) (k : ℕ) → 22 ≤ k → k < 44 → getD (scan .cold) (k - 22) 0 ≡ keptAt scan k
-cold-at scan k h l = rw (le-ltb k 22 h, lt-ltb k 44 l)
+cold-at : (scan : Scan) (k : ℕ) → channels ≤ k → k < 2 * channels → getD (scan .cold) (k - channels) 0 ≡ keptAt scan k
+cold-at scan k h l = rw (le-ltb k channels h, lt-ltb k (2 * channels) l)
 
-kelvin-at : (scan : Scan) (k : ℕ) → 22 ≤ k → 44 ≤ k → getD (scan .kelvin) (k - 44) 0 ≡ keptAt scan k
-kelvin-at scan k h l = rw (le-ltb k 22 h, le-ltb k 44 l)
+kelvin-at : (scan : Scan) (k : ℕ) → channels ≤ k → 2 * channels ≤ k → getD (scan .kelvin) (k - 2 * channels) 0 ≡ keptAt scan k
+kelvin-at scan k h l = rw (le-ltb k channels h, le-ltb k (2 * channels) l)
 
 accepted-scan-requires : tie.Need-accepted-scan-requires
 accepted-scan-requires c κs = search needs

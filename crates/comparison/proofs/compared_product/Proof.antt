@@ -10,10 +10,11 @@ use mir.Val.{SFits, toZ, ofZ}
 use Rattle.integers.proofs.Machine.{reads-back}
 use Rattle.scene.specs.declared.Constants.{Constants}
 use Rattle.scene.specs.Ranges.{ConstantsRange}
-use Rattle.window.specs.declared.Channel.{Channel}
+use Rattle.scene.specs.declared.Channel.{Channel}
 use Rattle.product.specs.Scenes.{noChannel}
 use Rattle.product.specs.Ranges.{ChannelRange}
-use Rattle.product.specs.Product.{productOf, deliveredCount}
+use Rattle.product.specs.Product.{productOf, deliveredCount, productSize}
+use Rattle.instrument.specs.Instrument.{channels}
 use Rattle.comparison.specs.AlikeChannels.{alikeChannels}
 use borrow.Author.Needs.{needs}
 use Rattle.comparison.proofs.compared_product.Statement.{statement}
@@ -25,9 +26,9 @@ constants-read-back : {tc rise tnl d slope base : ℤ} → SFits w64 tc → SFit
 constants-read-back h0 h1 h2 h3 h4 h5 = rw (reads-back h0, reads-back h1, reads-back h2, reads-back h3, reads-back h4, reads-back h5)
 
 module _ {k : Constants} (range : ConstantsRange k) where
-  each-in-range : (c : ℕ) → c < 22 → ChannelRange (getD (alikeChannels k) c noChannel)
+  each-in-range : (c : ℕ) → c < channels → ChannelRange (getD (alikeChannels k) c noChannel)
   unfolding alikeChannels
-  each-in-range c h = subst ChannelRange (sym (getD-replicate 22 c (record { flag = 0; constants = k }) noChannel h)) (record { constants = λ _. range })
+  each-in-range c h = subst ChannelRange (sym (getD-replicate channels c (record { flag = 0; constants = k }) noChannel h)) (record { constants = λ _. range })
 
 alike-channels-requires : tie.Need-alike-channels-requires
 alike-channels-requires c κs = search needs
@@ -37,7 +38,7 @@ write-product-requires c κs =
     let s = c .before .before .before .before in
     let back = constants-read-back (s .fits .tc) (s .fits .rise) (s .fits .tnl) (s .fits .d) (s .fits .slope) (s .fits .base) in
     let same = c .alike-channels .ensures ∙ ap alikeChannels back in
-    (s .pre .0, s .pre .1, subst (λ (l : List Channel). (i : ℕ) → i < 22 → ChannelRange (getD l i noChannel)) (sym same) (each-in-range (s .pre .2)))
+    (s .pre .0, s .pre .1, subst (λ (l : List Channel). (i : ℕ) → i < channels → ChannelRange (getD l i noChannel)) (sym same) (each-in-range (s .pre .2)))
 
 same-length : tie.Need-same-length
 same-length c = search needs
@@ -49,7 +50,7 @@ returns c =
     let same = c .before .before .before .alike-channels .ensures ∙ ap alikeChannels back in
     let written = c .before .before .write-product .ensures in (
       written .0 ∙ ap (λ (l : List Channel). deliveredCount l (s .args .earth .now)) same,
-      written .1 ∙ ap (λ (l : List Channel). productOf (s .args .number) l (s .args .earth .now) ++ drop 8706 (s .args .buffer .now)) same,
+      written .1 ∙ ap (λ (l : List Channel). productOf (s .args .number) l (s .args .earth .now) ++ drop productSize (s .args .buffer .now)) same,
     )
 
 pub compared-product-spec : {M : Type 1} → statement M

@@ -9,7 +9,8 @@ use Rattle.calibrator.specs.declared.Calibrator.{Calibrator}
 use Rattle.calibrator.specs.declared.Answer.{Answer}
 use Rattle.calibrator.specs.Refusals.{Reply, replyOf}
 use Rattle.lines.specs.declared.Calibrated.{Calibrated}
-use Rattle.lines.specs.Steps.{productSize, emptyProduct, recordFed, outputSize, errorLine, calibratedLine, calibratedOf}
+use Rattle.product.specs.Product.{productSize}
+use Rattle.lines.specs.Steps.{emptyProduct, recordFed, outputSize, errorLine, calibratedLine, calibratedOf}
 use Rattle.lines.proofs.LineLaws.{refused-line-of-error, calibrator-of-length, reply-of-length}
 use borrow.Author.Needs.{needs}
 use Rattle.lines.proofs.calibrate_record.Statement.{statement}

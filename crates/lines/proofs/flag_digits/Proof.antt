@@ -7,6 +7,7 @@ use lib.ListN.{length, getD, set, drop, replicate, length-set}
 use denote.Ref.{now}
 use Rattle.lists.specs.Build.{tabulate}
 use Rattle.lists.proofs.Tabulate.{tabulated-none, tabulated-more, tabulated-all}
+use Rattle.instrument.specs.Instrument.{channels}
 use Rattle.lines.specs.Lines.{flagDigits}
 use borrow.Author.Needs.{needs}
 use Rattle.lines.proofs.flag_digits.Statement.{statement}
@@ -16,10 +17,10 @@ abbrev digitAt : List ℕ → ℕ → ℕ
 digitAt flags c = 48 + getD flags c 0 % 10
 
 abbrev Inv-loop : tie.InvT-loop
-Inv-loop flags digits₀ c₀ digits c = (c ≤ 22) × (length digits ≡ 22) × (digits ≡ tabulate (digitAt flags) c ++ drop c digits₀)
+Inv-loop flags digits₀ c₀ digits c = (c ≤ channels) × (length digits ≡ channels) × (digits ≡ tabulate (digitAt flags) c ++ drop c digits₀)
 
 abbrev μ-loop : tie.MeasureT-loop
-μ-loop flags digits₀ c₀ digits c = 22 - c
+μ-loop flags digits₀ c₀ digits c = channels - c
 
 loop-holds : tie.Need-loop-holds Inv-loop μ-loop
 loop-holds c = (omega arith, search needs, tabulated-none (digitAt (now (c .args .flags))) _)
@@ -54,10 +55,10 @@ unfolding flagDigits
 returns c =
     let l = c .before in
     let digit = digitAt (now (l .before .args .flags)) in
-    let last : l .loop .c ≡ 22 = omega arith in
+    let last : l .loop .c ≡ channels = omega arith in
     l .loop .inv .2
-    ∙ ap (λ (n : ℕ). tabulate digit n ++ drop n (replicate 22 0)) last
-    ∙ tabulated-all digit 22 (replicate 22 0) (omega arith)
+    ∙ ap (λ (n : ℕ). tabulate digit n ++ drop n (replicate channels 0)) last
+    ∙ tabulated-all digit channels (replicate channels 0) (omega arith)
 
 pub flag-digits-spec : {M : Type 1} → statement M
 flag-digits-spec =

@@ -6,13 +6,14 @@ use mathlib.Core.List.{List, _++_}
 use lib.ListN.{length}
 use denote.Ref.{now}
 use Rattle.lists.specs.Build.{put}
+use Rattle.instrument.specs.Instrument.{channels}
 use Rattle.lines.specs.Lines.{ascii, decimal, flagDigits, scanLine}
 use Rattle.lines.proofs.LineLaws.{begins, with-part, with-parts, counts-line}
 use borrow.Author.Needs.{needs}
 use Rattle.lines.proofs.scan_line.Statement.{statement}
 use Rattle.lines.proofs.scan_line.Tie as tie
 
-length-out : (c : tie.After-line) → length (now (c .before .before .before .args .out)) ≡ 66
+length-out : (c : tie.After-line) → length (now (c .before .before .before .args .out)) ≡ 44 + channels
 length-out c = omega arith
 
 flag-digits-requires : tie.Need-flag-digits-requires

@@ -7,7 +7,8 @@ use lib.Ieee.{binary32, toBits}
 use denote.Ref.{now}
 use Rattle.lists.specs.Build.{put}
 use Rattle.lists.proofs.Put.{put-after-put}
-use Rattle.product.specs.Product.{u16Bytes, u32Bytes, summaryBytes}
+use Rattle.fields.specs.Numbers.{u16Bytes, u32Bytes}
+use Rattle.product.specs.Product.{summaryBytes}
 use borrow.Author.Needs.{needs}
 use Rattle.product.proofs.put_summary.Statement.{statement}
 use Rattle.product.proofs.put_summary.Tie as tie

@@ -6,11 +6,11 @@ use mathlib.Core.List.{List, []}
 use lib.ListN.{getD}
 use Rattle.lists.specs.Sum.{sum}
 use Rattle.lists.proofs.Sum.{sum-none, sum-more}
+use Rattle.instrument.specs.Instrument.{channels}
 use Rattle.product.specs.declared.Summary.{Summary}
 use Rattle.product.specs.Scenes.{noChannel}
 use Rattle.product.specs.Summary.{summaryOf}
-use Rattle.lists.proofs.Elements.{any-default}
-use Rattle.product.proofs.PastSummaries.{pastSummaries}
+use Rattle.product.proofs.PastSummaries.{summary-of}
 use borrow.Author.Needs.{needs}
 use Rattle.product.proofs.total_count.Statement.{statement}
 use Rattle.product.proofs.total_count.Tie as tie
@@ -19,10 +19,10 @@ abbrev countAt : List Summary → ℕ → ℕ
 countAt all c = getD all c (summaryOf noChannel []) .count
 
 abbrev Inv-loop : tie.InvT-loop
-Inv-loop all n₀ c₀ n c = (c ≤ 22) × (n ≡ sum (countAt all) c) × (n ≤ 65535 * c)
+Inv-loop all n₀ c₀ n c = (c ≤ channels) × (n ≡ sum (countAt all) c) × (n ≤ 65535 * c)
 
 abbrev μ-loop : tie.MeasureT-loop
-μ-loop all n₀ c₀ n c = 22 - c
+μ-loop all n₀ c₀ n c = channels - c
 
 loop-holds : tie.Need-loop-holds Inv-loop μ-loop
 loop-holds c = (search needs, sym (sum-none (countAt (c .args .t1))), search needs)
@@ -50,7 +50,7 @@ loop-again c =
     let l = c .before .before .before in
     let counts = countAt (l .before .args .t1) in (
       omega arith,
-      ap (λ (s : Summary). l .loop .n + s .count) (any-default (l .before .args .t1) (l .loop .c) pastSummaries (summaryOf noChannel []) (search needs))
+      ap (λ (s : Summary). l .loop .n + s .count) (summary-of (l .before .args .t1) (l .loop .c) (search needs))
           ∙ ap (λ (n : ℕ). n + counts (l .loop .c)) (l .loop .inv .1)
           ∙ sym (sum-more counts (l .loop .c)),
       omega arith,
@@ -59,7 +59,7 @@ loop-again c =
 returns : tie.Need-returns Inv-loop μ-loop
 returns c =
     let l = c .before in
-    let last : l .loop .c ≡ 22 = omega arith in
+    let last : l .loop .c ≡ channels = omega arith in
     l .loop .inv .1 ∙ ap (sum (countAt (l .before .args .t1))) last
 
 pub total-count-spec : {M : Type 1} → statement M

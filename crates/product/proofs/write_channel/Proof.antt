@@ -1,6 +1,6 @@
 -- `write_channel` meets its contract. The loop's invariant: the first i scenes stand at the front as their bits, the rest is as it was, and
 -- the summary is that of the first i scenes.
-use Prim.Native.Nat.{ℕ, _-_, _*_, _≤_}
+use Prim.Native.Nat.{ℕ, _-_, _≤_}
 use native.Mathlib.Omega.{arith}
 use mathlib.Core.Path.{_≡_, refl, sym, ap, subst, _∙_}
 use mathlib.Core.List.{List}
@@ -9,15 +9,17 @@ use lib.Dec.{T}
 use lib.ListN.{length}
 use lib.Ieee.{isNan}
 use denote.Ref.{now}
-use Rattle.lists.specs.Build.{put, filled}
-use Rattle.lists.proofs.Cells.{filled-none, filled-more, filled-all}
+use Rattle.lists.specs.Build.{filled}
+use Rattle.lists.proofs.Cells.{filled-none, filled-by-put, filled-to-end}
+use Rattle.instrument.specs.Instrument.{positions}
 use Rattle.scene.specs.declared.Scene.{Scene}
 use Rattle.scene.specs.Scene.{value, bits}
-use Rattle.window.specs.declared.Channel.{Channel}
+use Rattle.scene.specs.declared.Channel.{Channel}
 use Rattle.product.specs.declared.Summary.{Summary}
 use Rattle.product.specs.Scenes.{sceneIn, sceneAt}
 use Rattle.product.specs.Summary.{withScene, summaryTo}
-use Rattle.product.specs.Product.{u32Bytes, channelScenes}
+use Rattle.fields.specs.Numbers.{u32Bytes}
+use Rattle.product.specs.Product.{stretchSize, channelScenes}
 use Rattle.product.proofs.SceneLaws.{scene-in-not-nan}
 use Rattle.product.proofs.SummaryLaws.{summary-to-none, summary-to-more, count-at-most}
 use borrow.Author.Needs.{needs}
@@ -29,13 +31,13 @@ bytesAt channel part i = u32Bytes (bits (sceneAt channel part i))
 
 abbrev Inv-loop : tie.InvT-loop
 Inv-loop out₀ channel part scale summary₀ i₀ out summary i =
-    (i ≤ 96)
-    × (length out ≡ 384)
+    (i ≤ positions)
+    × (length out ≡ stretchSize)
     × (summary ≡ summaryTo (sceneAt channel part) i)
     × (out ≡ filled (bytesAt channel part) 4 i out₀)
 
 abbrev μ-loop : tie.MeasureT-loop
-μ-loop out₀ channel part scale summary₀ i₀ out summary i = 96 - i
+μ-loop out₀ channel part scale summary₀ i₀ out summary i = positions - i
 
 scale-in-requires : tie.Need-scale-in-requires Inv-loop μ-loop
 scale-in-requires c κs = search needs
@@ -96,18 +98,14 @@ loop-again c =
     let bytes = bytesAt (a .channel) (now (a .part)) in
     let i = l .loop .i in
     let scene : s .scene-in .result ≡ scenes i = s .scene-in .ensures ∙ ap (sceneIn (a .channel)) (s .before .u16-at .ensures) in
-    let place : 4 * i ≡ i * 4 = omega arith in (
+    let in-bits = w .before .bits-of .ensures ∙ ap bits scene in (
       omega arith,
       w .put-u32 .kept .0 ∙ l .loop .inv .1,
       t .with-scene .ensures
           ∙ ap (withScene (l .loop .summary)) scene
           ∙ ap (λ (s : Summary). withScene s (scenes i)) (l .loop .inv .2)
           ∙ sym (summary-to-more scenes i),
-      w .put-u32 .ensures
-          ∙ ap (λ (n : ℕ). put (l .loop .out) (4 * i) (u32Bytes n)) (w .before .bits-of .ensures ∙ ap bits scene)
-          ∙ ap (λ (n : ℕ). put (l .loop .out) n (bytes i)) place
-          ∙ ap (λ (o : List ℕ). put o (i * 4) (bytes i)) (l .loop .inv .3)
-          ∙ filled-more bytes 4 (λ _. refl) i (now (a .out)),
+      filled-by-put bytes 4 (λ _. refl) (now (a .out)) i (l .loop .inv .3) (ap u32Bytes in-bits) (w .put-u32 .ensures),
     )
 
 same-length : tie.Need-same-length Inv-loop μ-loop
@@ -120,11 +118,9 @@ returns c =
     let a = l .before .before .before .before .before .args in
     let scenes = sceneAt (a .channel) (now (a .part)) in
     let bytes = bytesAt (a .channel) (now (a .part)) in
-    let last : l .loop .i ≡ 96 = omega arith in (
+    let last : l .loop .i ≡ positions = omega arith in (
       l .loop .inv .2 ∙ ap (summaryTo scenes) last,
-      l .loop .inv .3
-          ∙ ap (λ (n : ℕ). filled bytes 4 n (now (a .out))) last
-          ∙ filled-all bytes 4 96 (now (a .out)) (omega arith),
+      filled-to-end bytes 4 positions (now (a .out)) last (l .before .before .before .before .before .pre .0) (l .loop .inv .3),
     )
 
 pub write-channel-spec : {M : Type 1} → statement M

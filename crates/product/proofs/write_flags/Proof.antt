@@ -1,13 +1,14 @@
 -- `write_flags` meets its contract. The loop's invariant: the first c bytes are the first c flags, and the rest is as it was.
 use Prim.Native.Nat.{ℕ, _-_, _≤_}
 use native.Mathlib.Omega.{arith}
-use mathlib.Core.Path.{_≡_, ap, _∙_}
+use mathlib.Core.Path.{_≡_, refl}
 use mathlib.Core.List.{List, _++_}
-use lib.ListN.{length, getD, set, drop, length-set}
+use lib.ListN.{length, getD, drop, length-set}
 use denote.Ref.{now}
 use Rattle.lists.specs.Build.{tabulate}
-use Rattle.lists.proofs.Tabulate.{tabulated-none, tabulated-more, tabulated-all}
-use Rattle.window.specs.declared.Channel.{Channel}
+use Rattle.lists.proofs.Tabulate.{tabulated-none, filled-by-store, tabulated-to-end}
+use Rattle.instrument.specs.Instrument.{channels}
+use Rattle.scene.specs.declared.Channel.{Channel}
 use Rattle.product.specs.Scenes.{noChannel}
 use Rattle.product.specs.Product.{flagBytes}
 use borrow.Author.Needs.{needs}
@@ -15,13 +16,13 @@ use Rattle.product.proofs.write_flags.Statement.{statement}
 use Rattle.product.proofs.write_flags.Tie as tie
 
 abbrev flagAt : List Channel → ℕ → ℕ
-flagAt channels c = getD channels c noChannel .flag
+flagAt states c = getD states c noChannel .flag
 
 abbrev Inv-loop : tie.InvT-loop
-Inv-loop out₀ channels c₀ out c = (c ≤ 22) × (length out ≡ 22) × (out ≡ tabulate (flagAt channels) c ++ drop c out₀)
+Inv-loop out₀ states c₀ out c = (c ≤ channels) × (length out ≡ channels) × (out ≡ tabulate (flagAt states) c ++ drop c out₀)
 
 abbrev μ-loop : tie.MeasureT-loop
-μ-loop out₀ channels c₀ out c = 22 - c
+μ-loop out₀ states c₀ out c = channels - c
 
 loop-holds : tie.Need-loop-holds Inv-loop μ-loop
 loop-holds c = (search needs, search needs, tabulated-none (flagAt (c .args .t2)) (now (c .args .out)))
@@ -44,12 +45,10 @@ loop-less c = omega arith
 loop-again : tie.Need-loop-again Inv-loop μ-loop
 loop-again c =
     let l = c .before .before in
-    let a = l .before .args in
-    let flags = flagAt (a .t2) in (
+    let a = l .before .args in (
       omega arith,
       simp length-set (l .loop .inv .1),
-      ap (λ (o : List ℕ). set o (l .loop .c) (flags (l .loop .c))) (l .loop .inv .2)
-          ∙ tabulated-more flags (l .loop .c) (now (a .out)) (omega arith),
+      filled-by-store (flagAt (a .t2)) (now (a .out)) (l .loop .c) (omega arith) (l .loop .inv .2) refl,
     )
 
 same-length : tie.Need-same-length Inv-loop μ-loop
@@ -60,11 +59,7 @@ unfolding flagBytes
 returns c =
     let l = c .before in
     let a = l .before .args in
-    let flags = flagAt (a .t2) in
-    let last : l .loop .c ≡ 22 = omega arith in
-    l .loop .inv .2
-    ∙ ap (λ (n : ℕ). tabulate flags n ++ drop n (now (a .out))) last
-    ∙ tabulated-all flags 22 (now (a .out)) (omega arith)
+    tabulated-to-end (flagAt (a .t2)) channels (now (a .out)) (omega arith) (omega arith) (l .loop .inv .2)
 
 pub write-flags-spec : {M : Type 1} → statement M
 write-flags-spec =

@@ -1,19 +1,19 @@
 -- `write_summaries` meets its contract. The loop's invariant: the first c summaries stand at the front, and the rest is as it was.
-use Prim.Native.Nat.{ℕ, _-_, _*_, _≤_, _<_}
+use Prim.Native.Nat.{ℕ, _-_, _*_, _≤_}
 use native.Mathlib.Omega.{arith}
 use mathlib.Core.Path.{_≡_, sym, ap, subst, _∙_}
 use mathlib.Core.List.{List, []}
 use lib.ListN.{length, getD}
 use denote.Ref.{now}
-use Rattle.lists.specs.Build.{put, filled}
-use Rattle.lists.proofs.Cells.{filled-none, filled-more, filled-all}
+use Rattle.lists.specs.Build.{filled}
+use Rattle.lists.proofs.Cells.{filled-none, filled-by-put, filled-to-end}
+use Rattle.instrument.specs.Instrument.{channels}
 use Rattle.product.specs.declared.Summary.{Summary}
 use Rattle.product.specs.Scenes.{noChannel}
 use Rattle.product.specs.Summary.{summaryOf}
-use Rattle.product.specs.Product.{summaryBytes, summariesBytes}
+use Rattle.product.specs.Product.{summarySize, summaryBytes, summariesBytes}
 use Rattle.product.specs.Steps.{Plain}
-use Rattle.lists.proofs.Elements.{any-default}
-use Rattle.product.proofs.PastSummaries.{pastSummaries}
+use Rattle.product.proofs.PastSummaries.{summary-of}
 use Rattle.product.proofs.Lengths.{length-summary-bytes}
 use borrow.Author.Needs.{needs}
 use Rattle.product.proofs.write_summaries.Statement.{statement}
@@ -22,20 +22,14 @@ use Rattle.product.proofs.write_summaries.Tie as tie
 abbrev bytesAt : List Summary → ℕ → List ℕ
 bytesAt all c = summaryBytes (getD all c (summaryOf noChannel []))
 
-summary-of : (all : List Summary) (c : ℕ) → c < length all → getD all c pastSummaries ≡ getD all c (summaryOf noChannel [])
-summary-of all c below = any-default all c pastSummaries (summaryOf noChannel []) below
-
-each-is-ten : (all : List Summary) (c : ℕ) → length (bytesAt all c) ≡ 10
-each-is-ten all c = length-summary-bytes (getD all c (summaryOf noChannel []))
-
 abbrev Inv-loop : tie.InvT-loop
-Inv-loop out₀ all c₀ out c = (c ≤ 22) × (length out ≡ 220) × (out ≡ filled (bytesAt all) 10 c out₀)
+Inv-loop out₀ all c₀ out c = (c ≤ channels) × (length out ≡ summarySize * channels) × (out ≡ filled (bytesAt all) summarySize c out₀)
 
 abbrev μ-loop : tie.MeasureT-loop
-μ-loop out₀ all c₀ out c = 22 - c
+μ-loop out₀ all c₀ out c = channels - c
 
 loop-holds : tie.Need-loop-holds Inv-loop μ-loop
-loop-holds c = (search needs, search needs, filled-none (bytesAt (c .before .args .t2)) 10 (now (c .before .args .out)))
+loop-holds c = (search needs, search needs, filled-none (bytesAt (c .before .args .t2)) summarySize (now (c .before .args .out)))
 
 mul-s : tie.Need-mul-s Inv-loop μ-loop
 mul-s c = omega arith
@@ -65,15 +59,11 @@ loop-again c =
     let w = c .before .before .put-summary in
     let l = c .before .before .before .before .before .before in
     let a = l .before .before .args in
-    let bytes = bytesAt (a .t2) in
-    let place : 10 * l .loop .c ≡ l .loop .c * 10 = omega arith in (
+    let k = l .loop .c in (
       omega arith,
       w .kept .0 ∙ l .loop .inv .1,
-      w .ensures
-          ∙ ap (λ (s : Summary). put (l .loop .out) (10 * l .loop .c) (summaryBytes s)) (summary-of (a .t2) (l .loop .c) (search needs))
-          ∙ ap (λ (n : ℕ). put (l .loop .out) n (bytes (l .loop .c))) place
-          ∙ ap (λ (o : List ℕ). put o (l .loop .c * 10) (bytes (l .loop .c))) (l .loop .inv .2)
-          ∙ filled-more bytes 10 (each-is-ten (a .t2)) (l .loop .c) (now (a .out)),
+      filled-by-put (bytesAt (a .t2)) summarySize (λ i. length-summary-bytes _) (now (a .out)) k
+          (l .loop .inv .2) (ap summaryBytes (summary-of (a .t2) k (search needs))) (w .ensures),
     )
 
 same-length : tie.Need-same-length Inv-loop μ-loop
@@ -84,11 +74,7 @@ unfolding summariesBytes
 returns c =
     let l = c .before in
     let a = l .before .before .args in
-    let bytes = bytesAt (a .t2) in
-    let last : l .loop .c ≡ 22 = omega arith in
-    l .loop .inv .2
-    ∙ ap (λ (n : ℕ). filled bytes 10 n (now (a .out))) last
-    ∙ filled-all bytes 10 22 (now (a .out)) (omega arith)
+    filled-to-end (bytesAt (a .t2)) summarySize channels (now (a .out)) (omega arith) (l .before .before .pre .0) (l .loop .inv .2)
 
 pub write-summaries-spec : {M : Type 1} → statement M
 write-summaries-spec =

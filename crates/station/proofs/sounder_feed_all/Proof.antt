@@ -11,7 +11,7 @@ use Rattle.table.specs.Opening.{opening}
 use Rattle.table.proofs.OpeningLaws.{table-when-passed, accepted-when-passed}
 use Rattle.calibrator.specs.declared.Calibrator.{Calibrator}
 use Rattle.calibrator.specs.Feeding.{freshOf}
-use Rattle.calibrator.specs.FeedList.{answerAt, buffersAt}
+use Rattle.feeds.specs.FeedList.{answerAt, buffersAt}
 use Rattle.station.specs.Calls.{answersBy, buffersBy}
 use Rattle.station.proofs.OpenedLaws.{number-is, passed-at-zero}
 use borrow.Author.Needs.{needs}

@@ -4,11 +4,11 @@ use Rattle.integers.proofs.Machine.{result-reads-back}
 use Rattle.table.proofs.corrections_of.Statement.{statement}
 use Rattle.table.proofs.corrections_of.Tie as tie
 
-mul-start : tie.Need-mul-start
-mul-start c = search needs
+mul-at : tie.Need-mul-at
+mul-at c = search needs
 
-add-start : tie.Need-add-start
-add-start c = search needs
+add-at : tie.Need-add-at
+add-at c = search needs
 
 add-i16-at : tie.Need-add-i16-at
 add-i16-at c = search needs
@@ -44,8 +44,8 @@ pub corrections-of-spec : {M : Type 1} → statement M
 corrections-of-spec =
     tie.close
     (tie.spec
-    mul-start
-    add-start
+    mul-at
+    add-at
     add-i16-at
     i16-at-requires
     add-u16-at

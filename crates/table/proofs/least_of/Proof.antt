@@ -1,37 +1,21 @@
--- `least_of` meets its contract: the byte read is that of the target that the match tells.
-use mathlib.Core.Path.{ap, sym}
-use denote.Ref.{now}
+-- `least_of` meets its contract: both places are inside the table, and the target tells which is read.
+use native.Mathlib.Omega.{arith}
 use borrow.Author.Needs.{needs}
-use Rattle.table.specs.Settings.{settingsOf, leastOf}
-use Rattle.table.specs.Opening.{ages}
+use Rattle.instrument.proofs.Places.{target-place-below}
 use Rattle.table.proofs.least_of.Statement.{statement}
 use Rattle.table.proofs.least_of.Tie as tie
 
-enum-told : tie.Need-enum-told
-enum-told c = search needs
+target-place-requires : tie.Need-target-place-requires
+target-place-requires c κs = search needs
+
+add-at : tie.Need-add-at
+add-at c = omega (arith, target-place-below (c .before .before .args .target))
 
 shared-slice-read-result : tie.Need-shared-slice-read-result
-shared-slice-read-result c = search needs
-
-enum-told-2 : tie.Need-enum-told-2
-enum-told-2 c = search needs
-
-shared-slice-read-result-2 : tie.Need-shared-slice-read-result-2
-shared-slice-read-result-2 c = search needs
+shared-slice-read-result c = omega (arith, target-place-below (c .before .before .before .args .target))
 
 returns : tie.Need-returns
-returns c = sym (ap (leastOf (settingsOf ages (now (c .before .before .before .args .table)))) (c .before .enum-told .given .1))
-
-returns-2 : tie.Need-returns-2
-returns-2 c = sym (ap (leastOf (settingsOf ages (now (c .before .before .before .args .table)))) (c .before .enum-told2 .given .1))
+returns c = rw (c .before .target-place .ensures)
 
 pub least-of-spec : {M : Type 1} → statement M
-least-of-spec =
-    tie.close
-    (tie.spec
-    enum-told
-    shared-slice-read-result
-    enum-told-2
-    shared-slice-read-result-2
-    returns
-    returns-2)
+least-of-spec = tie.close (tie.spec target-place-requires add-at shared-slice-read-result returns)

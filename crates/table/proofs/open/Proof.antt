@@ -1,4 +1,4 @@
--- `open` meets its contract: each return is what the tests that led there make of `opening`, and the copy of 741 bytes is the bytes.
+-- `open` meets its contract: each return is what the tests that led there make of `opening`, and the copy of as many bytes is the bytes.
 use Prim.Native.Nat.{ℕ, _≤_}
 use native.Mathlib.Omega.{arith}
 use native.Mathlib.Nat.{le-refl}

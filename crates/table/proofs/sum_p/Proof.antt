@@ -1,45 +1,41 @@
--- `sum_p` meets its contract: the bytes that it sums are the p of the target that the match tells.
+-- `sum_p` meets its contract: the bytes that it sums are the p of the target.
 use Prim.Native.Nat.{ℕ}
 use native.Mathlib.Omega.{arith}
-use mathlib.Core.Path.{ap, sym, _∙_}
+use mathlib.Core.Path.{ap, _∙_}
 use lib.ListN.{getD}
 use denote.Ref.{now}
 use borrow.Author.Needs.{needs}
+use Rattle.lists.specs.Sum.{sum}
 use Rattle.lists.proofs.Sum.{sum-same}
-use Rattle.table.specs.declared.Target.the-variants.{Kav, Wg}
-use Rattle.table.specs.Settings.{settingsOf}
-use Rattle.table.specs.Ranges.{sizeOf, weightOf}
-use Rattle.table.specs.Opening.{ages}
+use Rattle.instrument.specs.Instrument.{sizeOf}
+use Rattle.instrument.proofs.Places.{last-at-most}
 use Rattle.table.proofs.sum_p.Statement.{statement}
 use Rattle.table.proofs.sum_p.Tie as tie
 
-enum-told : tie.Need-enum-told
-enum-told c = search needs
+first-of-requires : tie.Need-first-of-requires
+first-of-requires c κs = search needs
+
+mul-at : tie.Need-mul-at
+mul-at c = omega (arith, last-at-most (c .before .before .args .target))
+
+add-at : tie.Need-add-at
+add-at c = omega (arith, last-at-most (c .before .before .args .target))
+
+size-of-requires : tie.Need-size-of-requires
+size-of-requires c κs = search needs
 
 byte-sum-requires : tie.Need-byte-sum-requires
-byte-sum-requires c κs = search needs
-
-enum-told-2 : tie.Need-enum-told-2
-enum-told-2 c = search needs
-
-byte-sum-requires-2 : tie.Need-byte-sum-requires-2
-byte-sum-requires-2 c κs = search needs
+byte-sum-requires c κs =
+    let last = last-at-most (c .before .before .before .args .target) in
+    (omega arith, omega arith, omega arith)
 
 returns : tie.Need-returns
 returns c =
-    let table = now (c .before .before .before .before .args .table) in
+    let a = c .before .before .before .before .args in
     c .byte-sum .ensures
-    ∙ sum-same _ _ (sizeOf Kav) (λ k below. ap (λ (p : ℕ). getD table p 0) (omega arith))
-    ∙ sym (ap (weightOf (settingsOf ages table)) (c .before .enum-told .given .1))
-
-returns-2 : tie.Need-returns-2
-returns-2 c =
-    let table = now (c .before .before .before .before .args .table) in
-    c .byte-sum2 .ensures
-    ∙ sum-same _ _ (sizeOf Wg) (λ k below. ap (λ (p : ℕ). getD table p 0) (omega arith))
-    ∙ sym (ap (weightOf (settingsOf ages table)) (c .before .enum-told2 .given .1))
+    ∙ ap (sum _) (c .before .size-of .ensures)
+    ∙ sum-same _ _ (sizeOf (a .target)) (λ k below. ap (λ (p : ℕ). getD (now (a .table)) p 0) (omega arith))
 
 pub sum-p-spec : {M : Type 1} → statement M
 sum-p-spec =
-    tie.close
-    (tie.spec enum-told byte-sum-requires enum-told-2 byte-sum-requires-2 returns returns-2)
+    tie.close (tie.spec first-of-requires mul-at add-at size-of-requires byte-sum-requires returns)

@@ -1,43 +1,57 @@
--- `thermometer_of` meets its contract: the row is read from the part that starts at it.
-use Prim.Native.Nat.{_+_, _*_}
-use mathlib.Core.Path.{_∙_}
-use denote.Ref.{now}
+-- `thermometer_of` meets its contract: each number is read at its place.
 use borrow.Author.Needs.{needs}
-use Rattle.table.proofs.Rows.{thermometer-of-part}
 use Rattle.table.proofs.thermometer_of.Statement.{statement}
 use Rattle.table.proofs.thermometer_of.Tie as tie
 
-mul-start : tie.Need-mul-start
-mul-start c = search needs
+mul-at : tie.Need-mul-at
+mul-at c = search needs
 
-add-start : tie.Need-add-start
-add-start c = search needs
+add-at : tie.Need-add-at
+add-at c = search needs
 
-sub-thermometer-row : tie.Need-sub-thermometer-row
-sub-thermometer-row c = search needs
+shared-slice-read-t6 : tie.Need-shared-slice-read-t6
+shared-slice-read-t6 c = search needs
 
-part-thermometer-row-start : tie.Need-part-thermometer-row-start
-part-thermometer-row-start c = search needs
+add-u32-at : tie.Need-add-u32-at
+add-u32-at c = search needs
 
-part-thermometer-row-end : tie.Need-part-thermometer-row-end
-part-thermometer-row-end c = search needs
+u32-at-requires : tie.Need-u32-at-requires
+u32-at-requires c κs = search needs
 
-thermometer-row-requires : tie.Need-thermometer-row-requires
-thermometer-row-requires c κs = search needs
+add-u32-at-2 : tie.Need-add-u32-at-2
+add-u32-at-2 c = search needs
+
+u32-at-requires-2 : tie.Need-u32-at-requires-2
+u32-at-requires-2 c κs = search needs
+
+add-u32-at-3 : tie.Need-add-u32-at-3
+add-u32-at-3 c = search needs
+
+u32-at-requires-3 : tie.Need-u32-at-requires-3
+u32-at-requires-3 c κs = search needs
+
+add-u32-at-4 : tie.Need-add-u32-at-4
+add-u32-at-4 c = search needs
+
+u32-at-requires-4 : tie.Need-u32-at-requires-4
+u32-at-requires-4 c κs = search needs
 
 returns : tie.Need-returns
-returns c =
-    let a = c .before .before .before .args in
-    c .thermometer-row .ensures ∙ thermometer-of-part (now (a .table)) (43 + 17 * a .i)
+returns c = rw (c .before .before .before .u32-at .ensures, c .before .before .u32-at2 .ensures, c .before .u32-at3 .ensures, c .u32-at4 .ensures)
 
 pub thermometer-of-spec : {M : Type 1} → statement M
 thermometer-of-spec =
     tie.close
     (tie.spec
-    mul-start
-    add-start
-    sub-thermometer-row
-    part-thermometer-row-start
-    part-thermometer-row-end
-    thermometer-row-requires
+    mul-at
+    add-at
+    shared-slice-read-t6
+    add-u32-at
+    u32-at-requires
+    add-u32-at-2
+    u32-at-requires-2
+    add-u32-at-3
+    u32-at-requires-3
+    add-u32-at-4
+    u32-at-requires-4
     returns)

@@ -1,0 +1,6 @@
+pub mod BenchScan
+pub mod FirstFeed
+pub mod BenchFeed
+pub mod BenchRows
+pub mod BenchLines
+pub mod Witnesses

@@ -1,0 +1,238 @@
+-- Concrete lists that meet the hypotheses of demand 3 and show each of its outcomes, so that no statement holds for want of a case.
+use Prim.Native.Nat.{ℕ, _<_, _≤_}
+use native.Mathlib.Nat.{le-refl}
+use native.Mathlib.Omega.{arith}
+use mathlib.Core.Path.{_≡_, refl, sym, ap, ap₂, subst, _∙_}
+use mathlib.Core.List.{List, [], _∷_}
+use mathlib.Core.Bool.{true, false}
+use lib.ListN.{length, getD, replicate, length-replicate}
+use lib.IntN.{ℤ, pos}
+use borrow.Author.Tests.{le-leb}
+use Rattle.integers.specs.Fractions.{whole, Equal}
+use Rattle.integers.specs.Rounding.{floor, r}
+use Rattle.lists.specs.Build.{tabulate, cells}
+use Rattle.lists.specs.Count.{count}
+use Rattle.lists.specs.Sum.{sum}
+use Rattle.lists.specs.Tests.{Verdict, passes, fails}
+use Rattle.fields.specs.Fields.{fieldIsRight, layoutIsRight}
+use Rattle.instrument.specs.Instrument.{channels, positions}
+use Rattle.record.specs.Record.{scanNumber, recordSize}
+use Rattle.samples.specs.Good.{differs, good, chosenTo}
+use Rattle.acceptance.specs.Counts.{Sides, fourCounts, withinLimits, withoutOverlap, acceptedSides, noCounts}
+use Rattle.acceptance.specs.Accepted.{acceptedCounts, acceptedSamples}
+use Rattle.acceptance.specs.Kept.{keptScan}
+use Rattle.scene.specs.declared.Channel.{Channel}
+use Rattle.window.specs.Ages.{noScan, windowOf, shifted, windowAfter}
+use Rattle.window.specs.Sums.{weightSum, valueSum, thermometerWeights, thermometerSum, meansFrom}
+use Rattle.window.specs.Means.{flagOf, stateOf}
+use Rattle.scene.specs.Scene.{noConstants, bits, sceneOf}
+use Rattle.scene.specs.declared.Scene.the-variants.{Flagged, Outside}
+use Rattle.product.specs.Scenes.{sceneIn}
+use Rattle.calibrator.specs.declared.Calibrator.{Calibrator}
+use Rattle.calibrator.specs.Refusals.{verdict, Reply, delivered, refused}
+use Rattle.calibrator.specs.Feeding.{Feed, freshOf, verdictIn, stepBy, step}
+use Rattle.promise.specs.Moments.{wordAt, unitsAt, isDelivered}
+use Rattle.promise.specs.Promise.{front, FeedClaim, Alike}
+use Rattle.product.specs.Product.{productSize}
+use Rattle.bench.specs.Bench.{benchTable, perChannel, benchScan, benchCalibrator, benchSettings, benchChannel}
+use Rattle.bench.specs.Witnesses.{rejectedScan, flaggedScan, zeros, rejectedList, oneOfEach, replies}
+use Rattle.calibrator.proofs.Verdicts.{verdict-length-wrong, verdict-field-wrong, verdict-number-not-above, verdict-buffer-short}
+use Rattle.bench.proofs.BenchScan.{bench-table, samplesAt, samplesWith, samples-are}
+use Rattle.bench.proofs.FirstFeed.{states-by-kept, Gives, first-verdict, first-word, first-reply}
+use Rattle.bench.proofs.BenchFeed.{channels-of-kept, scene-delivered, bench-gives, bench-passes, bench-reply}
+use Rattle.bench.proofs.BenchRows.{rows}
+use Rattle.promise.proofs.Plain.{same-scan-by, alike-accepted-by, alike-refused-by, alike-by, none-alike, same-products-say, each-says}
+use Rattle.promise.proofs.SceneClaims.{bits-delivered}
+use Rattle.promise.proofs.Demand.{demand-three}
+
+-- ---- a buffer with room, as the laws below ask for
+
+pub some-room : productSize ≤ length {A = ℕ} (replicate productSize 0)
+some-room = omega (arith, length-replicate {A = ℕ} productSize 0)
+
+-- ---- two lists that are alike and differ in a rejected sample (H10: the fourth is bad)
+
+abbrev rejectedSides : Sides
+rejectedSides = record { warm = samplesAt 3 20000; cold = samplesAt 4 10000 }
+
+first-samples : acceptedSamples benchSettings (rejectedScan 20100) ≡ samplesWith rejectedSides
+unfolding benchTable rejectedScan tabulate acceptedCounts fourCounts withinLimits acceptedSides withoutOverlap good differs count chosenTo
+first-samples = samples-are (rejectedScan 20100) rejectedSides refl refl
+
+second-samples : acceptedSamples benchSettings (rejectedScan 20200) ≡ samplesWith rejectedSides
+unfolding benchTable rejectedScan tabulate acceptedCounts fourCounts withinLimits acceptedSides withoutOverlap good differs count chosenTo
+second-samples = samples-are (rejectedScan 20200) rejectedSides refl refl
+
+rejected-gives : (fourth : ℕ) → acceptedSamples benchSettings (rejectedScan fourth) ≡ samplesWith rejectedSides → Gives (rejectedScan fourth) benchChannel 15000
+unfolding rejectedScan layoutIsRight fieldIsRight keptScan tabulate perChannel
+rejected-gives fourth samples = record {
+  long = refl;
+  right = refl;
+  number = refl;
+  states = channels-of-kept (rejectedScan fourth) refl (ap keptScan samples);
+  earths = refl;
+}
+
+first-gives : Gives (rejectedScan 20100) benchChannel 15000
+first-gives = rejected-gives 20100 first-samples
+
+second-gives : Gives (rejectedScan 20200) benchChannel 15000
+second-gives = rejected-gives 20200 second-samples
+
+pub records-differ : rejectedScan 20100 ≡ rejectedScan 20200 → ⊥
+unfolding rejectedScan
+records-differ same = let byte : _≡_ {A = ℕ} 132 232 = ap (λ (l : List ℕ). getD l 54 0) same in omega arith
+
+-- a refused feed leaves the calibrator as it was
+replies-refused : (c : Calibrator) (feed : Feed) (more : List Feed) (n : ℕ) (rest : List Reply) → verdictIn c feed ≡ fails n → replies c more ≡ rest
+    → replies c (feed ∷ more) ≡ refused n ∷ rest
+unfolding replies stepBy
+replies-refused c feed more n rest is follows =
+    ap (λ (v : Verdict). stepBy v c feed .outcome .reply ∷ replies (stepBy v c feed .calibrator) more) is ∙ ap (λ (l : List Reply). refused n ∷ l) follows
+
+replies-rejected : (short : List ℕ) (fourth : ℕ) (buffer : List ℕ) → (length short ≡ recordSize → ⊥) → productSize ≤ length buffer → Gives (rejectedScan fourth) benchChannel 15000
+    → replies benchCalibrator (rejectedList short fourth buffer) ≡ refused 4 ∷ delivered 2112 ∷ []
+unfolding replies
+replies-rejected short fourth buffer wrong room gives =
+    let feed : Feed = record { scan = rejectedScan fourth; buffer = buffer } in
+    replies-refused benchCalibrator (record { scan = short; buffer = [] }) (feed ∷ []) 4 _ (verdict-length-wrong _ _ short 0 wrong)
+    (ap (λ (reply : Reply). reply ∷ []) (first-reply gives buffer room scene-delivered))
+
+module _ (buffer other : List ℕ) (room : productSize ≤ length buffer) (other-room : productSize ≤ length other) where
+  abbrev firstFeed : Feed
+  firstFeed = record { scan = rejectedScan 20100; buffer = buffer }
+
+  abbrev secondFeed : Feed
+  secondFeed = record { scan = rejectedScan 20200; buffer = other }
+
+  abbrev firstList : List Feed
+  firstList = rejectedList [] 20100 buffer
+
+  abbrev secondList : List Feed
+  secondList = rejectedList (0 ∷ []) 20200 other
+
+  pub first-replies : replies benchCalibrator firstList ≡ refused 4 ∷ delivered 2112 ∷ []
+  first-replies = replies-rejected [] 20100 buffer (λ long. omega arith) room first-gives
+
+  pub second-replies : replies benchCalibrator secondList ≡ refused 4 ∷ delivered 2112 ∷ []
+  second-replies = replies-rejected (0 ∷ []) 20200 other (λ long. omega arith) other-room second-gives
+
+  pub lists-alike : Alike benchSettings [] [] firstList secondList
+  unfolding verdict
+  lists-alike =
+      alike-by benchSettings [] [] _ _ (firstFeed ∷ []) (secondFeed ∷ [])
+      (alike-refused-by benchSettings [] [] _ _ 4 refl refl)
+      (alike-by benchSettings [] [] firstFeed secondFeed [] []
+      (alike-accepted-by benchSettings [] [] firstFeed secondFeed (first-verdict first-gives buffer room) (first-verdict second-gives other other-room)
+      (same-scan-by benchSettings (rejectedScan 20100) (rejectedScan 20200)
+      (first-gives .number ∙ sym (second-gives .number)) (first-gives .earths ∙ sym (second-gives .earths)) (first-samples ∙ sym second-samples)))
+      (none-alike benchSettings _ _))
+
+  -- so that by demand 3 the accepted feeds leave the same product
+  pub same-products : front (step benchCalibrator firstFeed .outcome .buffer) ≡ front (step benchCalibrator secondFeed .outcome .buffer)
+  unfolding verdict stepBy
+  same-products =
+      let c = benchCalibrator in
+      let both = demand-three (record { bytes = benchTable }) bench-table firstList secondList .alike lists-alike in
+      same-products-say c c firstFeed secondFeed [] [] (same-products-say c c _ _ (firstFeed ∷ []) (secondFeed ∷ []) both .1) .0
+      .product 2112 (first-reply first-gives buffer room scene-delivered)
+
+-- ---- each refusal, and an accepted feed
+
+module _ (buffer : List ℕ) (room : productSize ≤ length buffer) where
+  abbrev noBytes : Feed
+  noBytes = record { scan = []; buffer = buffer }
+
+  abbrev noTag : Feed
+  noTag = record { scan = zeros; buffer = buffer }
+
+  abbrev noRoom : Feed
+  noRoom = record { scan = benchScan 15000; buffer = [] }
+
+  abbrev bench : Feed
+  bench = record { scan = benchScan 15000; buffer = buffer }
+
+  abbrev after : Calibrator
+  after = stepBy passes benchCalibrator bench .calibrator
+
+  no-bytes : verdictIn benchCalibrator noBytes ≡ fails 4
+  no-bytes = verdict-length-wrong _ _ [] (length buffer) (λ long. omega arith)
+
+  no-tag : verdictIn benchCalibrator noTag ≡ fails 5
+  unfolding zeros layoutIsRight fieldIsRight
+  no-tag = verdict-field-wrong _ _ zeros (length buffer) refl refl
+
+  no-room : verdictIn benchCalibrator noRoom ≡ fails 7
+  unfolding freshOf windowOf
+  no-room = verdict-buffer-short false 0 (benchScan 15000) 0 (bench-gives 15000 .long) (bench-gives 15000 .right) refl (omega arith)
+
+  once-more : verdictIn after bench ≡ fails 6
+  unfolding stepBy windowAfter
+  once-more =
+      let number = scanNumber (benchScan 15000) in
+      verdict-number-not-above true number (benchScan 15000) (length buffer) (bench-gives 15000 .long) (bench-gives 15000 .right) (le-leb number number (le-refl number))
+
+  bench-twice : replies benchCalibrator (bench ∷ bench ∷ []) ≡ delivered 2112 ∷ refused 6 ∷ []
+  unfolding replies
+  bench-twice =
+      ap₂ (λ (reply : Reply) (c : Calibrator). reply ∷ replies c (bench ∷ []))
+      (bench-reply buffer room) (ap (λ (v : Verdict). stepBy v benchCalibrator bench .calibrator) (bench-passes 15000 buffer room))
+      ∙ ap (λ (l : List Reply). delivered 2112 ∷ l) (replies-refused after bench [] 6 [] once-more refl)
+
+  pub one-of-each : replies benchCalibrator (oneOfEach buffer) ≡ refused 4 ∷ refused 5 ∷ refused 7 ∷ delivered 2112 ∷ refused 6 ∷ []
+  one-of-each =
+      replies-refused benchCalibrator noBytes (noTag ∷ noRoom ∷ bench ∷ bench ∷ []) 4 _ no-bytes
+      (replies-refused benchCalibrator noTag (noRoom ∷ bench ∷ bench ∷ []) 5 _ no-tag
+      (replies-refused benchCalibrator noRoom (bench ∷ bench ∷ []) 7 _ no-room
+      bench-twice))
+
+-- ---- scenes
+
+outside-scene : sceneIn benchChannel 9999 ≡ Outside
+unfolding sceneIn sceneOf r floor
+outside-scene = refl
+
+-- too few warm counts
+abbrev flaggedChannel : Channel
+flaggedChannel = record { flag = 2; constants = noConstants }
+
+flagged-samples : acceptedSamples benchSettings flaggedScan ≡ samplesWith noCounts
+unfolding benchTable flaggedScan tabulate acceptedCounts fourCounts withinLimits acceptedSides withoutOverlap good differs count chosenTo
+flagged-samples = samples-are flaggedScan noCounts refl refl
+
+flagged-gives : Gives flaggedScan flaggedChannel 15000
+unfolding benchTable flaggedScan layoutIsRight fieldIsRight keptScan tabulate windowOf windowAfter shifted noScan cells stateOf flagOf meansFrom weightSum valueSum thermometerWeights thermometerSum sum
+flagged-gives = record {
+  long = refl;
+  right = refl;
+  number = refl;
+  states = states-by-kept flaggedScan (keptScan (samplesWith noCounts)) refl (ap keptScan flagged-samples);
+  earths = refl;
+}
+
+flagged-scene : sceneIn flaggedChannel 15000 ≡ Flagged
+unfolding sceneIn
+flagged-scene = refl
+
+module _ (buffer : List ℕ) (room : productSize ≤ length buffer) (c i : ℕ) (below : c < channels) (inside : i < positions) where
+  -- earth counts 9,999 (H6)
+  pub all-outside : wordAt (step benchCalibrator (record { scan = benchScan 9999; buffer = buffer }) .outcome .buffer) c i ≡ bits Outside
+  all-outside = first-word (bench-gives 9999) buffer room c i below inside ∙ ap bits outside-scene
+
+  -- no count is accepted (H12)
+  pub all-flagged : wordAt (step benchCalibrator (record { scan = flaggedScan; buffer = buffer }) .outcome .buffer) c i ≡ bits Flagged
+  all-flagged = first-word flagged-gives buffer room c i below inside ∙ ap bits flagged-scene
+
+  -- earth counts 15,000 (H4)
+  pub all-delivered : isDelivered (wordAt (step benchCalibrator (record { scan = benchScan 15000; buffer = buffer }) .outcome .buffer) c i) ≡ true
+  all-delivered = ap isDelivered (first-word (bench-gives 15000) buffer room c i below inside) ∙ bits-delivered benchChannel 15000 ∙ scene-delivered
+
+  -- so that by demand 3 each is exactly T / 4096
+  pub each-is-exact : Equal (unitsAt (step benchCalibrator (record { scan = benchScan 15000; buffer = buffer }) .outcome .buffer) c i) (whole (pos 565394))
+  each-is-exact =
+      let feed : Feed = record { scan = benchScan 15000; buffer = buffer } in
+      let after = step benchCalibrator feed in
+      let promise = demand-three (record { bytes = benchTable }) bench-table (feed ∷ []) [] in
+      let claim = each-says (FeedClaim benchSettings) [] benchCalibrator feed [] (promise .each) .0 .accepts (first-verdict (bench-gives 15000) buffer room) in
+      subst (λ (t : ℤ). Equal (unitsAt (after .outcome .buffer) c i) (whole t)) (rows .H4 c i below inside .1)
+      (claim .scenes c i below inside .exact all-delivered)

@@ -1,0 +1,2 @@
+pub mod FeedListLaws
+pub mod FeedListRuns

@@ -1,0 +1,86 @@
+-- Two lists that are alike give the same products: their rolls keep the same scans by age, and a product is made of these, the number
+-- and the earth counts alone.
+use Prim.Native.Nat.{ℕ, _+_}
+use native.Mathlib.Omega.{arith}
+use mathlib.Core.Path.{_≡_, refl, sym, ap, ap₂, fun-ext, _∙_}
+use mathlib.Core.List.{List, _∷_, _++_}
+use mathlib.Core.Bool.{cond}
+use lib.Dec.{eqb}
+use lib.ListN.{take, drop}
+use lib.Seq.{take-at}
+use Rattle.lists.specs.Tests.{Verdict, passes, fails}
+use Rattle.lists.proofs.Tabulate.{tabulate-same}
+use Rattle.table.specs.Settings.{Settings}
+use Rattle.instrument.specs.Instrument.{channels}
+use Rattle.acceptance.specs.declared.Scan.{Scan}
+use Rattle.record.specs.Record.{scanNumber, earthCounts}
+use Rattle.acceptance.specs.Kept.{keptScan}
+use Rattle.scene.specs.declared.Channel.{Channel}
+use Rattle.window.specs.Sums.{meansOf}
+use Rattle.window.specs.Means.{stateOf}
+use Rattle.product.specs.Product.{productOf, deliveredCount, productSize}
+use Rattle.product.proofs.Bytes.{length-product}
+use Rattle.calibrator.specs.Refusals.{delivered, refused}
+use Rattle.calibrator.specs.Feeding.{Feed, keptBy}
+use Rattle.promise.specs.Roll.{Roll, lastNumber, joinedBy}
+use Rattle.promise.specs.Moments.{channelsAt}
+use Rattle.promise.specs.Promise.{SameScan, SameOutcome}
+use Rattle.promise.proofs.RollLaws.{scanOfAge}
+use Rattle.promise.proofs.SampleLaws.{means-at-is}
+use Rattle.promise.proofs.RolledOutcomes.{fedMoment, outcomeBy}
+
+refused-not-delivered : (n k : ℕ) → refused n ≡ delivered k → ⊥
+refused-not-delivered n k accepted = let clash : _≡_ {A = ℕ} 0 1 = cc in omega arith
+
+module _ (s : Settings) where
+  -- nothing that a product is made of tells the two rolls apart
+  pub record SameRolls (roll rolled : Roll) : Type 0 where
+    pub last : lastNumber roll ≡ lastNumber rolled
+    pub scans : scanOfAge s roll ≡ scanOfAge s rolled
+
+  same-channels : (scan other : List ℕ) (roll rolled : Roll) → SameRolls (scan ∷ roll) (other ∷ rolled) → channelsAt s (fedMoment roll scan) ≡ channelsAt s (fedMoment rolled other)
+  same-channels scan other roll rolled h =
+      tabulate-same _ _ channels (λ c inside.
+      ap (stateOf s c)
+      (means-at-is s (fedMoment roll scan) c inside
+      ∙ ap₂ (λ (scans : ℕ → ℕ → Scan) (number : ℕ). meansOf s (λ k. scans number k) c) (h .scans) (h .last)
+      ∙ sym (means-at-is s (fedMoment rolled other) c inside)))
+
+  joined-same : (scan other : List ℕ) (roll rolled : Roll) → SameScan s scan other → SameRolls roll rolled → SameRolls (scan ∷ roll) (other ∷ rolled)
+  unfolding scanOfAge
+  joined-same scan other roll rolled e h = record {
+    last = e .number;
+    scans = fun-ext (λ number. fun-ext (λ k. ap₂ (λ (n : ℕ) (kept : Scan). cond (eqb (n + k) number) kept (scanOfAge s roll number k)) (e .number) (ap keptScan (e .samples))
+        ∙ ap (λ (scans : ℕ → ℕ → Scan). cond (eqb (scanNumber other + k) number) (keptBy s other) (scans number k)) (h .scans)));
+  }
+
+  same-product : (number : ℕ) (all : List Channel) (earth rest others : List ℕ)
+      → take productSize (productOf number all earth ++ rest) ≡ take productSize (productOf number all earth ++ others)
+  same-product number all earth rest others =
+      take-at (productOf number all earth) rest productSize (length-product number all earth)
+      ∙ sym (take-at (productOf number all earth) others productSize (length-product number all earth))
+
+  -- ---- one pair of feeds
+  pub record SameStep (v : Verdict) (roll rolled : Roll) (feed other : Feed) : Type 0 where
+    pub outcomes : SameOutcome (outcomeBy v s roll feed) (outcomeBy v s rolled other)
+    pub rolls : SameRolls (joinedBy v roll feed) (joinedBy v rolled other)
+
+  accepted-same : (roll rolled : Roll) (feed other : Feed) → SameScan s (feed .scan) (other .scan) → SameRolls roll rolled → SameStep passes roll rolled feed other
+  accepted-same roll rolled feed other e h =
+      let both = joined-same (feed .scan) (other .scan) roll rolled e h in
+      let all = same-channels (feed .scan) (other .scan) roll rolled both in
+      record {
+        outcomes = record {
+          reply = ap₂ (λ (channels : List Channel) (earth : List ℕ). delivered (deliveredCount channels earth)) all (e .earth);
+          product = λ delivered-count accepted.
+              ap (λ (n : ℕ). take productSize (productOf n (channelsAt s (fedMoment roll (feed .scan))) (earthCounts (feed .scan)) ++ drop productSize (feed .buffer))) (e .number)
+              ∙ ap₂ (λ (channels : List Channel) (earth : List ℕ). take productSize (productOf (scanNumber (other .scan)) channels earth ++ drop productSize (feed .buffer))) all (e .earth)
+              ∙ same-product (scanNumber (other .scan)) (channelsAt s (fedMoment rolled (other .scan))) (earthCounts (other .scan)) (drop productSize (feed .buffer)) (drop productSize (other .buffer));
+        };
+        rolls = both;
+      }
+
+  pub same-step : (v : Verdict) (roll rolled : Roll) (feed other : Feed) → (v ≡ passes → SameScan s (feed .scan) (other .scan)) → SameRolls roll rolled
+      → SameStep v roll rolled feed other
+  same-step passes roll rolled feed other e h = accepted-same roll rolled feed other (e refl) h
+  same-step (fails n) roll rolled feed other e h = record { outcomes = record { reply = refl; product = λ k accepted. absurd (refused-not-delivered n k accepted) }; rolls = h }

@@ -1,0 +1,5 @@
+pub mod Roll
+pub mod Samples
+pub mod Moments
+pub mod Promise
+pub mod Restart

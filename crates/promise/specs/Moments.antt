@@ -1,0 +1,114 @@
+-- Document 01, "Lists of feeds" and demand 3, of one moment: the records that stand, and the record whose scenes are meant. Every product
+-- is made of one moment and the table.
+use Prim.Native.Nat.{ℕ, _+_, _*_, _<_}
+use mathlib.Core.Path.{_≡_}
+use mathlib.Core.List.{List}
+use mathlib.Core.Bool.{Bool, true, false, not, _&&_}
+use lib.Dec.{eqb}
+use lib.IntN.{ℤ, pos, _-ℤ_, _*ℤ_}
+use lib.Signed.{_≤ℤ_, _<ℤ_}
+use lib.Ieee.{binary32, ofBits}
+use Rattle.integers.specs.Fractions.{Fraction, _/ᶠ_, whole, Equal, Near}
+use Rattle.lists.specs.Build.{tabulate}
+use Rattle.lists.specs.Count.{count}
+use Rattle.lists.specs.Sum.{sum}
+use Rattle.fields.specs.Numbers.{u16At, u32At}
+use Rattle.fields.specs.Fields.{valueStart}
+use Rattle.instrument.specs.declared.Side.the-variants.{Warm, Cold}
+use Rattle.table.specs.Settings.{Settings}
+use Rattle.instrument.specs.Instrument.{channels, positions, targetOf}
+use Rattle.record.specs.Record.{scanNumber, earthCounts, earthPart}
+use Rattle.window.specs.declared.Means.{Means}
+use Rattle.scene.specs.declared.Channel.{Channel}
+use Rattle.window.specs.Means.{Tw, Tc, D, tooFewThermometers, tooFewCounts, stateOf}
+use Rattle.scene.specs.declared.Scene.the-variants.{Flagged, Outside, Guard}
+use Rattle.scene.specs.Scene.{bits, unitsOf}
+use Rattle.scene.specs.Temperature.{N, temperature}
+use Rattle.scene.specs.Unrounded.{E, unroundedTw, meanCount, corrected}
+use Rattle.product.specs.Product.{productLayout, stretchSize, productOf}
+use Rattle.promise.specs.Roll.{Roll}
+use Rattle.promise.specs.Samples.{samplesOfAge, sumsOf}
+
+pub record Moment : Type 0 where
+  pub standing : Roll
+  pub scan : List ℕ
+
+-- the current number is this record's
+abbrev pub currentNumber : Moment → ℕ
+currentNumber m = scanNumber (m .scan)
+
+-- ---- the product, from the accepted samples of the window and this record's earth counts
+module _ (s : Settings) (m : Moment) where
+  -- the sums of channel c; the window has the standing records with ages 0..7
+  abbrev pub meansAt : ℕ → Means
+  meansAt c = sumsOf s (λ k. samplesOfAge s (m .standing) (currentNumber m) k) c
+
+  abbrev pub channelsAt : List Channel
+  channelsAt = tabulate (λ c. stateOf s c (meansAt c)) channels
+
+  abbrev pub productAt : List ℕ
+  productAt = productOf (currentNumber m) channelsAt (earthCounts (m .scan))
+
+-- ---- the numbers of a scene, position i of channel c
+module _ (s : Settings) (m : Moment) (c i : ℕ) where
+  abbrev pub countAt : ℤ
+  countAt = pos (u16At (earthPart (earthCounts (m .scan)) c) (2 * i))
+
+  abbrev pub dAt : ℤ
+  dAt = D (meansAt s m c)
+
+  abbrev pub nAt : ℤ
+  nAt = let sums = meansAt s m c in N (pos (sums .ww)) (pos (sums .wc)) (pos (sums .ac)) countAt
+
+  abbrev pub tAt : ℤ
+  tAt = let channel = s .channel c in temperature (Tc channel) (Tw (meansAt s m c) channel -ℤ Tc channel) (channel .tnl) dAt nAt
+
+  abbrev pub unroundedTwAt : Fraction
+  unroundedTwAt = let sums = meansAt s m c in unroundedTw (pos (sums .weighted)) (pos (sums .weights)) (s .channel c .b)
+
+  abbrev pub eAt : Fraction
+  eAt = let channel = s .channel c in E (nAt /ᶠ dAt) unroundedTwAt (whole (Tc channel)) (whole (channel .tnl))
+
+  -- T by equations 25 to 29, one by one, from the mean counts and the unrounded Tw
+  abbrev pub equationsAt : Fraction
+  equationsAt =
+      let sums = meansAt s m c in corrected (meanCount (pos (sums .aw)) (pos (sums .ww))) (meanCount (pos (sums .ac)) (pos (sums .wc))) unroundedTwAt (whole (Tc (s .channel c))) (whole (s .channel c .tnl)) (whole countAt)
+
+  -- the three weight sums suffice, the mean warm count is above the mean cold, the scene lies from 0 to 1.25, and the guard passes
+  pub record ByTheRules : Type 0 where
+    pub thermometers : tooFewThermometers s (targetOf c) (meansAt s m c .weights) ≡ false
+    pub warm : tooFewCounts s Warm (meansAt s m c .ww) ≡ false
+    pub cold : tooFewCounts s Cold (meansAt s m c .wc) ≡ false
+    pub warmAboveCold : pos 0 <ℤ dAt
+    pub notBelow : pos 0 ≤ℤ nAt
+    pub notAbove : (pos 4 *ℤ nAt) ≤ℤ (pos 5 *ℤ dAt)
+    pub guardLow : pos 1 ≤ℤ tAt
+    pub guardHigh : tAt ≤ℤ pos 16777215
+
+-- ---- a scene as the product's bytes have it: its four bytes in field 0x22
+abbrev pub wordAt : List ℕ → ℕ → ℕ → ℕ
+wordAt product c i = u32At product (valueStart productLayout 2 + stretchSize * c + 4 * i)
+
+-- it is delivered if they are no mark
+abbrev pub isDelivered : ℕ → Bool
+isDelivered word = not (eqb word (bits Flagged)) && (not (eqb word (bits Outside)) && not (eqb word (bits Guard)))
+
+-- the delivered scenes of a product, counted in its bytes
+abbrev pub deliveredIn : List ℕ → ℕ
+deliveredIn product = sum (λ c. count (λ i. isDelivered (wordAt product c i)) positions) channels
+
+-- 4096 times the f32 that the four bytes hold
+abbrev pub unitsAt : List ℕ → ℕ → ℕ → Fraction
+unitsAt product c i = unitsOf (ofBits binary32 (wordAt product c i))
+
+-- ---- what is claimed of a scene of the moment's product
+pub record SceneClaim (s : Settings) (m : Moment) (product : List ℕ) (c i : ℕ) : Type 0 where
+  -- it is delivered exactly when the rules say
+  pub rules : isDelivered (wordAt product c i) ≡ true → ByTheRules s m c i
+  pub delivers : ByTheRules s m c i → isDelivered (wordAt product c i) ≡ true
+  -- it is then exactly T / 4096
+  pub exact : isDelivered (wordAt product c i) ≡ true → Equal (unitsAt product c i) (whole (tAt s m c i))
+  -- and at most 2 units from E
+  pub distance : isDelivered (wordAt product c i) ≡ true → Near (pos 2 /ᶠ pos 1) (unitsAt product c i) (eAt s m c i)
+  -- which is what equations 25 to 29 give
+  pub equations : isDelivered (wordAt product c i) ≡ true → Equal (equationsAt s m c i) (eAt s m c i)
