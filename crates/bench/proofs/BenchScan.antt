@@ -17,7 +17,6 @@ use Rattle.fields.specs.Numbers.{u16At, u16Bytes}
 use Rattle.fields.specs.Fields.{fieldIsRight, layoutIsRight}
 use Rattle.thermometer.specs.Reading.{Result, units, reading}
 use Rattle.thermometer.proofs.Bench.{bench-reading}
-use Rattle.instrument.specs.declared.Side.{Side}
 use Rattle.instrument.specs.declared.Side.the-variants.{Warm, Cold}
 use Rattle.instrument.specs.declared.Target.{Target}
 use Rattle.instrument.specs.declared.Target.the-variants.{Kav, Wg}
@@ -40,7 +39,7 @@ use Rattle.lists.proofs.Stands.{cell-stands}
 use Rattle.fields.proofs.FieldBytes.{u16-that-stands}
 use Rattle.promise.specs.Moments.{meansAt}
 use Rattle.calibrator.specs.Feeding.{keptBy}
-use Rattle.bench.specs.Bench.{benchTable, instrumentBytes, perChannel, benchScan, benchSettings, benchMoment, limits}
+use Rattle.bench.specs.Bench.{benchTable, instrumentBytes, perChannel, benchScan, benchSettings, benchMoment}
 use Rattle.promise.proofs.RollLaws.{scanOfAge}
 use Rattle.promise.proofs.SampleLaws.{means-at-is}
 
@@ -51,11 +50,6 @@ unfolding opening benchTable layoutIsRight fieldIsRight valuesInside leastsInsid
 bench-table = record { accepted = refl }
 
 -- what it says of each channel
-pub bench-limits : (side : Side) (c : ℕ) → c < channels → benchSettings .channel c .limits side ≡ limits
-unfolding benchTable tabulate
-bench-limits Warm = each-of-same (λ c. benchSettings .channel c .limits Warm) (λ c. limits) channels refl
-bench-limits Cold = each-of-same (λ c. benchSettings .channel c .limits Cold) (λ c. limits) channels refl
-
 abbrev pub benchRow : Corrections
 benchRow = record { b = pos 0; rj = 0; sl = 0; tnl = pos 400 }
 

@@ -3,13 +3,12 @@ use Prim.Native.Nat.{ℕ, zero, suc, _+_, _-_, _*_, _<_, _≤_}
 use native.Mathlib.Nat.{add-zero, add-assoc}
 use native.Mathlib.Decide.{decLt}
 use native.Mathlib.Omega.{arith}
-use mathlib.Core.Path.{_≡_, ap₂, _∙_}
+use mathlib.Core.Path.{_≡_, ap₂}
 use mathlib.Core.List.{List}
 use lib.Dec.{le→leb}
 use lib.IntN.{pos, negsuc, negℤ, _-ℤ_}
 use lib.Signed.{_≤ℤ_, leZ-yes}
-use lib.ListN.{getD, drop}
-use lib.Seq.{getD-drop}
+use lib.ListN.{getD}
 use borrow.Author.Tests.{lt-ltb, le-ltb}
 use Rattle.fields.specs.Numbers.{u16At, u32At, signed}
 
@@ -32,13 +31,6 @@ module _ (s t : List ℕ) where
       ap₂ (λ (high low : ℕ). 65536 * high + low)
       (u16-same i k (λ j inside. same j (omega arith)))
       (u16-same (i + 2) (k + 2) (λ j inside. simp add-assoc (same (2 + j) (omega arith))))
-
-module _ (s : List ℕ) (k i : ℕ) where
-  pub u16-of-drop : u16At (drop k s) i ≡ u16At s (k + i)
-  u16-of-drop = u16-same (drop k s) s i (k + i) (λ j inside. getD-drop k s (i + j) 0 ∙ simp add-assoc)
-
-  pub u32-of-drop : u32At (drop k s) i ≡ u32At s (k + i)
-  u32-of-drop = u32-same (drop k s) s i (k + i) (λ j inside. getD-drop k s (i + j) 0 ∙ simp add-assoc)
 
 -- ---- two's complement
 

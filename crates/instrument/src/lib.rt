@@ -12,6 +12,8 @@ pub const THERMOMETERS: usize = 15;
 // KAV has the first eight thermometers and serves the first 15 channels; WG has the others and serves the others.
 pub const KAV_THERMOMETERS: usize = 8;
 
+pub const WG_THERMOMETERS: usize = THERMOMETERS - KAV_THERMOMETERS;
+
 pub const KAV_CHANNELS: usize = 15;
 
 // Warm counts or cold counts.
@@ -41,7 +43,7 @@ pub fn size_of(target: Target) -> usize
 {
     match target {
         Target::Kav => KAV_THERMOMETERS,
-        Target::Wg => THERMOMETERS - KAV_THERMOMETERS,
+        Target::Wg => WG_THERMOMETERS,
     }
 }
 

@@ -5,7 +5,7 @@ use native.Mathlib.Omega.{arith}
 use mathlib.Core.Path.{_≡_, refl, sym, ap, _∙_}
 use mathlib.Core.List.{List, [], _∷_, _++_, append-assoc}
 use lib.ListN.{length, getD, set, take, drop, length-append, length-take, length-drop}
-use lib.Seq.{sets, sets-eq, length-take-le, take-all, take-at, drop-at, take-append-le, take-take, drop-append-add, drop-drop, take-add, getD-take, getD-drop}
+use lib.Seq.{sets, sets-eq, length-take-le, take-at, drop-at, take-append-le, take-take, drop-append-add, drop-drop, take-add, getD-take, getD-drop}
 use Rattle.lists.specs.Build.{put}
 
 -- ---- what a put leaves and what it holds
@@ -105,10 +105,6 @@ module _ {A : Type 0} where
       ap (λ (k : ℕ). put (put b at u) k v) (sym next)
       ∙ put-behind (take at b ++ u) v b (at + length u) (length-up-to-put b u at (omega arith))
       ∙ simp (append-assoc, add-assoc, length-append)
-
-  -- `&xs[k..]`
-  pub rest-is-drop : (xs : List A) (k : ℕ) → take (length xs - k) (drop k xs) ≡ drop k xs
-  rest-is-drop xs k = take-all (length xs - k) (drop k xs) (omega (arith, length-drop k xs))
 
   -- `&xs[k..k + n]`
   pub part-is-take : (xs : List A) (k n : ℕ) → take (k + n - k) (drop k xs) ≡ take n (drop k xs)

@@ -82,7 +82,7 @@ values-in-range s holds =
     let thermometerTest : ℕ → Bool = λ i. thermometerInside (s .thermometer i) in
     let channelTest : ℕ → Bool = λ c. channelInside (s .channel c) in
     let part = each-of-all (leastsInside s ∷ thermometerLimitsInside s ∷ every thermometerTest thermometers ∷ every channelTest channels ∷ sumsInside s ∷ []) holds in
-    let least = each-of-all (fromTo 1 100 (s .percentThermometers) ∷ fromTo 1 100 (s .percent Warm) ∷ fromTo 1 100 (s .percent Cold) ∷ fromTo 1 8 (s .least Kav) ∷ fromTo 1 7 (s .least Wg) ∷ []) (part 0) in
+    let least = each-of-all (fromTo 1 100 (s .percentThermometers) ∷ fromTo 1 100 (s .percent Warm) ∷ fromTo 1 100 (s .percent Cold) ∷ fromTo 1 (sizeOf Kav) (s .least Kav) ∷ fromTo 1 (sizeOf Wg) (s .least Wg) ∷ []) (part 0) in
     let limit = each-of-all (resistanceInside (s .rPam) ∷ sizeTo 245760 (s .tLow) ∷ sizeTo 245760 (s .tUpp) ∷ leZ (s .tLow) (s .tUpp) ∷ leb (s .dT) 491520 ∷ []) (part 1) in
     let total = each-of-all (fromTo 1 255 (sum (s .w) (s .ages)) ∷ fromTo 1 255 (sum (s .v) (s .ages)) ∷ fromTo 1 255 (weightOf s Kav) ∷ fromTo 1 255 (weightOf s Wg) ∷ []) (part 4) in
     record {

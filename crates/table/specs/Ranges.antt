@@ -23,7 +23,7 @@ sizeTo m z = leZ (negℤ (pos m)) z && leZ z (pos m)
 unfoldable pub leastsInside : Settings → Bool
 leastsInside s =
     allHold (fromTo 1 100 (s .percentThermometers) ∷ fromTo 1 100 (s .percent Warm) ∷ fromTo 1 100 (s .percent Cold)
-    ∷ fromTo 1 8 (s .least Kav) ∷ fromTo 1 7 (s .least Wg) ∷ [])
+    ∷ fromTo 1 (sizeOf Kav) (s .least Kav) ∷ fromTo 1 (sizeOf Wg) (s .least Wg) ∷ [])
 
 -- R_PAM, T_low and T_upp -245,760..245,760 with low not above upp, dT 0..491,520
 unfoldable pub thermometerLimitsInside : Settings → Bool

@@ -14,9 +14,11 @@ ghost use Rattle.table.specs.Opening.{ages, tableSize, verdictOf, openin
 ghost use Rattle.table.specs.Steps.{rowCount, rowInside};
 use fields::HEAD;
 use instrument::CHANNELS;
+use instrument::KAV_THERMOMETERS;
 use instrument::Side;
 use instrument::THERMOMETERS;
 use instrument::Target;
+use instrument::WG_THERMOMETERS;
 
 // How many scans the window has: a weight of each group for each age.
 pub const AGES: usize = 8;
@@ -178,8 +180,16 @@ fn leasts_inside(table: &[u8]) -> bool
         from_to(1, 100, percent_thermometers(table) as u32),
         from_to(1, 100, percent_of(table, Side::Warm) as u32),
         from_to(1, 100, percent_of(table, Side::Cold) as u32),
-        from_to(1, 8, least_of(table, Target::Kav) as u32),
-        from_to(1, 7, least_of(table, Target::Wg) as u32),
+        from_to(
+            1,
+            KAV_THERMOMETERS as u32,
+            least_of(table, Target::Kav) as u32,
+        ),
+        from_to(
+            1,
+            WG_THERMOMETERS as u32,
+            least_of(table, Target::Wg) as u32,
+        ),
     ];
     lists::all_hold(&tests)
 }

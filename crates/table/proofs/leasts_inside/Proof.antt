@@ -32,20 +32,26 @@ cast-from-to-3 c = search needs
 from-to-requires-3 : tie.Need-from-to-requires-3
 from-to-requires-3 c κs = search needs
 
+cast-from-to-4 : tie.Need-cast-from-to-4
+cast-from-to-4 c = search needs
+
 least-of-requires : tie.Need-least-of-requires
 least-of-requires c κs = search needs
 
-cast-from-to-4 : tie.Need-cast-from-to-4
-cast-from-to-4 c = search needs
+cast-from-to-5 : tie.Need-cast-from-to-5
+cast-from-to-5 c = search needs
 
 from-to-requires-4 : tie.Need-from-to-requires-4
 from-to-requires-4 c κs = search needs
 
+cast-from-to-6 : tie.Need-cast-from-to-6
+cast-from-to-6 c = search needs
+
 least-of-requires-2 : tie.Need-least-of-requires-2
 least-of-requires-2 c κs = search needs
 
-cast-from-to-5 : tie.Need-cast-from-to-5
-cast-from-to-5 c = search needs
+cast-from-to-7 : tie.Need-cast-from-to-7
+cast-from-to-7 c = search needs
 
 from-to-requires-5 : tie.Need-from-to-requires-5
 from-to-requires-5 c κs = search needs
@@ -80,11 +86,13 @@ leasts-inside-spec =
     percent-of-requires-2
     cast-from-to-3
     from-to-requires-3
-    least-of-requires
     cast-from-to-4
-    from-to-requires-4
-    least-of-requires-2
+    least-of-requires
     cast-from-to-5
+    from-to-requires-4
+    cast-from-to-6
+    least-of-requires-2
+    cast-from-to-7
     from-to-requires-5
     slice-aggregate-all-hold
     all-hold-requires
