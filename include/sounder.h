@@ -1,9 +1,10 @@
 /* The sounder calibrator for C, C++ and Fortran: raw counts of a microwave sounder become brightness
- * temperatures. Link with libstation.a, which `make lib` builds (x86-64 Linux).
+ * temperatures. Link with libstation.a or libstation.so, which `make lib` builds and `make install` installs
+ * (x86-64 Linux).
  *
- * README.md has the formats of tables, scan records and products and the numbers of the refusals. Every
+ * docs/RULES.md has the formats of tables, scan records, products and states and all rules. Every
  * function answers every input, keeps nothing between calls and allocates nothing, so that any number of
- * threads may call it, each with buffers of its own; a call takes about 16 KiB of stack. No function writes
+ * threads may call it, each with buffers of its own; a call takes less than 24 KiB of stack. No function writes
  * past what is named here.
  *
  * A pointer and the count behind it are one argument; the pointer may be null where the count is 0. What is
@@ -19,13 +20,25 @@
 extern "C" {
 #endif
 
+/* The version of this header, as text and as the number 10000 * major + 100 * minor + patch. */
+#define SOUNDER_VERSION "1.0.0"
+#define SOUNDER_VERSION_NUMBER 10000
+
 enum {
     SOUNDER_TABLE_BYTES = 741,
     SOUNDER_RECORD_BYTES = 4629,
     SOUNDER_PRODUCT_BYTES = 8706,
+    /* What sounder_state_size gives. */
+    SOUNDER_STATE_BYTES = 2660,
+    /* The answer where the bytes are no state, or where a state has no room. */
+    SOUNDER_NO_STATE = 254,
     /* In answers: a feed that was not fed, since a length or bytes were missing. */
     SOUNDER_NOT_FED = 255
 };
+
+/* The version of the library, in the form of SOUNDER_VERSION_NUMBER. A program serves with every library of the
+ * same major version that is not older than the header that it was compiled with. */
+uint32_t sounder_version(void);
 
 /* Opens a table: 0 if it is accepted, or 1 (its length), 2 (a tag or length in it), 3 (a value or sum
  * outside its range). */
@@ -54,6 +67,28 @@ uint8_t sounder_feed_all(const uint8_t *table, size_t table_len,
                          uint8_t *buffers, size_t buffers_len,
                          const uint32_t *buffer_lengths, size_t buffer_count,
                          uint8_t *answers, size_t answer_count);
+
+/* ---- Scan by scan: the calibrator is a state in the caller's memory.
+ *
+ * A state is 2,660 bytes, big-endian, with a magic number and a version at its front; docs/RULES.md has its
+ * layout. It may be copied, saved, and read on another machine: a run over a list of records through states
+ * gives what one call of sounder_feed_all gives. Bytes behind the 2,660 are not looked at and stay as they
+ * were. */
+
+/* How many bytes a state has: SOUNDER_STATE_BYTES. */
+size_t sounder_state_size(void);
+
+/* Opens the table and writes the state of a fresh calibrator: 0; or the table's refusal (1 to 3), then 254
+ * (SOUNDER_NO_STATE) where state_len is below 2,660. A refusal writes nothing. The table is in the state, and
+ * is not needed again. */
+uint8_t sounder_fresh(const uint8_t *table, size_t table_len, uint8_t *state, size_t state_len);
+
+/* Feeds one scan record to the calibrator of a state: 0, and the product stands in the first 8,706 bytes of
+ * buffer and the calibrator after it in state; or 254 (SOUNDER_NO_STATE) where the bytes are no state: fewer
+ * than 2,660, a wrong front, a table that would be refused, a value out of its range; then 4 to 7 as in
+ * sounder_feed_all. A refusal writes nothing. */
+uint8_t sounder_feed(uint8_t *state, size_t state_len, const uint8_t *record, size_t record_len,
+                     uint8_t *buffer, size_t buffer_len);
 
 #ifdef __cplusplus
 }

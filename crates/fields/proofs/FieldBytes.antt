@@ -4,13 +4,13 @@ use Prim.Native.Nat.{ℕ, zero, suc, _+_, _<_}
 use native.Mathlib.Nat.{add-zero, zero-add}
 use native.Mathlib.Omega.{arith}
 use mathlib.Core.Path.{_≡_, refl, sym, ap, _∙_}
-use mathlib.Core.List.{List, [], _∷_, _++_}
+use mathlib.Core.List.{List, [], _∷_, _++_, append-assoc}
 use mathlib.Core.Bool.{true}
 use lib.ListN.{length, getD, length-append}
 use borrow.Author.Tests.{eq-eqb}
 use Rattle.lists.proofs.Stands.{StandsAt, stands-itself, stands-at-front, stands-behind, stands-inside}
 use Rattle.fields.specs.Numbers.{u16At, u32At, u16Bytes, u32Bytes}
-use Rattle.fields.specs.Fields.{Field, headSize, fieldBytes, fieldIsRight, layoutSize, layoutIsRight, fieldAt, valueStart}
+use Rattle.fields.specs.Fields.{Field, headSize, fieldBytes, fieldIsRight, layoutSize, layoutIsRight, fieldAt, valueStart, laidOut}
 use Rattle.fields.proofs.NumberLaws.{u16-same, u32-same}
 use Rattle.fields.proofs.LayoutLaws.{right-when-each, fieldStart}
 
@@ -64,17 +64,17 @@ module _ (f : Field) (value : List ℕ) where
 
 -- ---- all fields of a layout
 
--- the fields with these values, one after the other, and what comes behind them
-abbrev pub laidOut : List Field → List (List ℕ) → List ℕ → List ℕ
-laidOut [] values rest = rest
-laidOut (f ∷ fs) [] rest = rest
-laidOut (f ∷ fs) (value ∷ values) rest = fieldBytes f value ++ laidOut fs values rest
-
 -- each value has its field's length
 abbrev pub Sized : List Field → List (List ℕ) → Type 0
 Sized [] values = Unit {0}
 Sized (f ∷ fs) [] = ⊥
 Sized (f ∷ fs) (value ∷ values) = (length value ≡ f .size) × Sized fs values
+
+pub laid-out-before : (fs : List Field) (values : List (List ℕ)) (rest : List ℕ) → laidOut fs values [] ++ rest ≡ laidOut fs values rest
+laid-out-before [] values rest = refl
+laid-out-before (f ∷ fs) [] rest = refl
+laid-out-before (f ∷ fs) (value ∷ values) rest =
+    append-assoc (fieldBytes f value) (laidOut fs values []) rest ∙ ap (λ (l : List ℕ). fieldBytes f value ++ l) (laid-out-before fs values rest)
 
 pub length-laid-out : (fs : List Field) (values : List (List ℕ)) (rest : List ℕ) → Sized fs values
     → length (laidOut fs values rest) ≡ layoutSize fs + length rest

@@ -58,3 +58,9 @@ valueStart fs k = layoutSize (take k fs) + headSize
 -- the value of field k of bytes with this layout
 abbrev pub valueIn : List Field → ℕ → List ℕ → List ℕ
 valueIn fs k bytes = take (fieldAt fs k .size) (drop (valueStart fs k) bytes)
+
+-- the fields with these values, one after the other, and what comes behind them
+abbrev pub laidOut : List Field → List (List ℕ) → List ℕ → List ℕ
+laidOut [] values rest = rest
+laidOut (f ∷ fs) [] rest = rest
+laidOut (f ∷ fs) (value ∷ values) rest = fieldBytes f value ++ laidOut fs values rest

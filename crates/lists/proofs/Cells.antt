@@ -9,7 +9,7 @@ use mathlib.Core.List.{List, [], _++_, append-assoc, append-nil}
 use lib.ListN.{length, take, drop, length-append, drop-of-length-le}
 use lib.Seq.{take-at, drop-at}
 use Rattle.lists.specs.Build.{cells, put, filled}
-use Rattle.lists.proofs.Put.{put-behind}
+use Rattle.lists.proofs.Put.{put-behind, put-after-put}
 
 pub filled-none : {A : Type 0} (f : ℕ → List A) (k : ℕ) (b : List A) → b ≡ filled f k 0 b
 unfolding cells
@@ -49,6 +49,13 @@ module _ {A : Type 0} (f : ℕ → List A) (k : ℕ) (each : (i : ℕ) → lengt
       ∙ ap (λ (n : ℕ). put out n v) (mul-comm k i)
       ∙ ap₂ (λ (l w : List A). put l (i * k) w) is is-cell
       ∙ filled-more i b
+
+  -- the same in a part of a longer list, from `at` on
+  pub put-next-cell : (b : List A) (at i : ℕ) → at + k * i ≤ length b → put (put b at (cells f i)) (at + k * i) (f i) ≡ put b at (cells f (i + 1))
+  unfolding cells
+  put-next-cell b at i fits =
+      put-after-put b (cells f i) (f i) at (at + k * i) (ap (λ (n : ℕ). at + n) (length-cells i ∙ mul-comm i k)) fits
+      ∙ ap (λ (n : ℕ). put b at (cells f n)) (sym (add-one i))
 
   -- the cell i of n stands at i * k, whatever comes behind
   pub cell-at : (n i : ℕ) (behind : List A) → i < n → take k (drop (i * k) (cells f n ++ behind)) ≡ f i

@@ -51,6 +51,11 @@ module _ (holds : ℕ → Bool) where
   every-of-more zero n h l = refl
   every-of-more (suc m) n h l = and-eq-true-iff (every holds m) (holds m) .1 (every-of-more m n h (omega arith), each-of-every n m h (omega arith))
 
+pub every-when-each : (holds : ℕ → Bool) (n : ℕ) → ((i : ℕ) → i < n → holds i ≡ true) → every holds n ≡ true
+unfolding every
+every-when-each holds zero each = refl
+every-when-each holds (suc n) each = ap₂ _&&_ (every-when-each holds n (λ i below. each i (omega arith))) (each n (omega arith))
+
 pub every-same : (holds also : ℕ → Bool) (n : ℕ) → ((i : ℕ) → i < n → holds i ≡ also i) → every holds n ≡ every also n
 unfolding every
 every-same holds also zero e = refl

@@ -3,9 +3,9 @@ use Prim.Native.Nat.{ℕ, _+_, _-_, _<_, _≤_}
 use native.Mathlib.Nat.{add-assoc, add-sub-cancel-left, le-refl}
 use native.Mathlib.Omega.{arith}
 use mathlib.Core.Path.{_≡_, refl, sym, ap, _∙_}
-use mathlib.Core.List.{List, [], _∷_, _++_, append-assoc}
-use lib.ListN.{length, getD, set, take, drop, length-append, length-take, length-drop}
-use lib.Seq.{sets, sets-eq, length-take-le, take-at, drop-at, take-append-le, take-take, drop-append-add, drop-drop, take-add, getD-take, getD-drop}
+use mathlib.Core.List.{List, [], _∷_, _++_, append-assoc, append-nil}
+use lib.ListN.{length, getD, set, take, drop, length-append, length-take, length-drop, drop-of-length-le}
+use lib.Seq.{take-all, sets, sets-eq, length-take-le, take-at, drop-at, take-append-le, take-take, drop-append-add, drop-drop, take-add, getD-take, getD-drop}
 use Rattle.lists.specs.Build.{put}
 
 -- ---- what a put leaves and what it holds
@@ -120,3 +120,15 @@ module _ {A : Type 0} where
   lent-part-is-put xs ys a e end =
       let long : e - a ≡ length ys = omega arith in
       rw long (simp (append-assoc, drop-drop))
+
+  -- ---- copies
+
+  -- a list that is copied over one as long
+  pub copied-whole : (src dst out : List A) → length src ≡ length dst → out ≡ take (length src) src ++ drop (length src) dst → out ≡ src
+  copied-whole src dst out long copied =
+      let room : length dst ≤ length src = omega arith in
+      copied ∙ rw (take-all (length src) src (le-refl (length src)), drop-of-length-le dst room) (append-nil src)
+
+  -- nothing was put yet
+  pub put-nothing : (b : List A) (at : ℕ) → at ≤ length b → b ≡ put b at []
+  put-nothing b at fits = sets-eq [] b at (omega arith)

@@ -4,10 +4,11 @@ use native.Mathlib.Nat.{add-assoc, zero-add, mul-comm}
 use native.Mathlib.Omega.{arith}
 use mathlib.Core.Path.{_≡_, sym, ap, _∙_}
 use mathlib.Core.List.{List, _++_}
-use lib.ListN.{length, getD, drop, List·getD-append}
-use lib.Seq.{getD-append-add, getD-take, getD-drop}
+use lib.ListN.{length, getD, take, drop, List·getD-append}
+use lib.Seq.{ext-getD, getD-append-add, getD-take, getD-drop}
 use Rattle.lists.specs.Build.{cells}
 use Rattle.lists.proofs.Cells.{cell-of-cells}
+use Rattle.lists.proofs.Put.{length-part}
 
 -- from place `at` on, l has the elements of v
 pub record StandsAt {A : Type 0} (l : List A) (at : ℕ) (v : List A) : Type 0 where
@@ -44,3 +45,12 @@ module _ {A : Type 0} where
         ∙ sym (getD-take k (drop (i * k) (cells f n)) j d short)
         ∙ ap (λ l. getD l j d) (cell-of-cells f k long n i below);
   }
+
+  -- what stands is read as a part
+  pub part-that-stands : (l v : List A) (at n : ℕ) (d : A) → length v ≡ n → at + n ≤ length l → StandsAt l at v → take n (drop at l) ≡ v
+  part-that-stands l v at n d long fits stands =
+      let same : length (take n (drop at l)) ≡ n = length-part l at n fits in
+      ext-getD d (take n (drop at l)) v (same ∙ sym long)
+      (λ i below.
+      let inside : i < n = omega (arith, same) in
+      getD-take n (drop at l) i d inside ∙ getD-drop at l i d ∙ stands .each i d (omega arith))

@@ -11,8 +11,8 @@ use lib.Ieee.{binary32, toBits}
 use Rattle.lists.proofs.Stands.{StandsAt, stands-at-front, stands-behind, stands-inside, cell-stands}
 use Rattle.lists.proofs.Tabulate.{getD-tabulate}
 use Rattle.fields.specs.Numbers.{u16At, u32At, u16Bytes, u32Bytes}
-use Rattle.fields.specs.Fields.{layoutIsRight, fieldBytes, fieldAt, valueStart}
-use Rattle.fields.proofs.FieldBytes.{u16-that-stands, u32-that-stands, laidOut, Sized, length-laid-out, value-stands, laid-out-is-right}
+use Rattle.fields.specs.Fields.{layoutIsRight, fieldBytes, fieldAt, valueStart, laidOut}
+use Rattle.fields.proofs.FieldBytes.{u16-that-stands, u32-that-stands, Sized, length-laid-out, value-stands, laid-out-is-right}
 use Rattle.instrument.specs.Instrument.{channels, positions}
 use Rattle.record.specs.Record.{earthPart}
 use Rattle.scene.specs.Scene.{bits}

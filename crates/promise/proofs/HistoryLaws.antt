@@ -46,7 +46,7 @@ window-same any last f g e =
     rw (cells-same (λ k. f k .warm) (λ k. g k .warm) ages (λ k h. ap (λ (x : Scan). x .warm) (e k h)), cells-same (λ k. f k .cold) (λ k. g k .cold) ages (λ k h. ap (λ (x : Scan). x .cold) (e k h)), cells-same (λ k. f k .kelvin) (λ k. g k .kelvin) ages (λ k h. ap (λ (x : Scan). x .kelvin) (e k h)))
 
 -- ---- every scan of the roll has the shape of a scan
-kept-shape : (s : Settings) (scan : List ℕ) → ScanShape (keptBy s scan)
+pub kept-shape : (s : Settings) (scan : List ℕ) → ScanShape (keptBy s scan)
 unfolding keptScan
 kept-shape s scan = record { warm = length-tabulate _ channels; cold = length-tabulate _ channels; kelvin = simp (length-append, length-tabulate) }
 

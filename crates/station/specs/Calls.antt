@@ -10,6 +10,10 @@ use Rattle.calibrator.specs.declared.Calibrator.{Calibrator}
 use Rattle.calibrator.specs.Feeding.{freshOf}
 use Rattle.feeds.specs.FeedList.{answerAt, buffersAt}
 
+-- version 1.0.0
+abbrev pub libraryVersion : ℕ
+libraryVersion = 10000
+
 -- t, or what stood there before where there is none
 abbrev pub unitsOr : Result → ℤ → ℤ
 unitsOr (units t) before = t

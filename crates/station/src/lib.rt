@@ -4,7 +4,9 @@ ghost use lib.ListN.{length};
 ghost use Rattle.lists.specs.Tests.{numberOf};
 ghost use Rattle.thermometer.specs.Reading.{number, reading};
 ghost use Rattle.table.specs.Opening.{opening};
-ghost use Rattle.station.specs.Calls.{unitsOr, answersBy, buffersBy};
+ghost use Rattle.state.specs.State.{stateSize};
+ghost use Rattle.live.specs.Calls.{freshVerdict, freshBy, fedState, CallLeaves};
+ghost use Rattle.station.specs.Calls.{libraryVersion, unitsOr, answersBy, buffersBy};
 use calibrator::Calibrator;
 use thermometer::Reading;
 
@@ -73,4 +75,38 @@ pub extern "C" fn sounder_feed_all(
         answers,
     );
     0
+}
+
+// ---- scan by scan: the calibrator is a state in the caller's memory
+
+// How many bytes a state has.
+#[no_mangle]
+pub extern "C" fn sounder_state_size() -> usize
+    ensures { λ n. ⌜ n ≡ stateSize ⌝ }
+{
+    state::STATE_SIZE
+}
+
+// Writes the state of a fresh calibrator under this table: 0, 1 to 3, or 254 where the state is too short.
+#[no_mangle]
+pub extern "C" fn sounder_fresh(table: &[u8], state: &mut [u8]) -> u8
+    ensures { λ n. ⌜ (n ≡ numberOf (freshVerdict (now (table .entry)) (now (state .entry)))) × (now (state .exit) ≡ freshBy (freshVerdict (now (table .entry)) (now (state .entry))) (now (table .entry)) (now (state .entry))) ⌝ }
+{
+    live::fresh(table, state)
+}
+
+// Feeds a scan to the calibrator of a state: 0, 254 where the bytes are no state, or 4 to 7.
+#[no_mangle]
+pub extern "C" fn sounder_feed(state: &mut [u8], scan: &[u8], buffer: &mut [u8]) -> u8
+    ensures { λ n. ⌜ CallLeaves (fedState (now (state .entry)) (record { scan = now (scan .entry); buffer = now (buffer .entry) })) n (now (state .exit)) (now (buffer .exit)) ⌝ }
+{
+    live::feed(state, scan, buffer)
+}
+
+// 10,000 times the major, 100 times the minor and once the patch number of the version.
+#[no_mangle]
+pub extern "C" fn sounder_version() -> u32
+    ensures { λ n. ⌜ n ≡ libraryVersion ⌝ }
+{
+    10_000
 }

@@ -1,3 +1,4 @@
 pub mod Answers
 pub mod Ranges
 pub mod OpeningLaws
+pub mod OpenedLaws

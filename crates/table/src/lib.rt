@@ -107,7 +107,7 @@ pub struct Corrections {
     pub tnl: i64,
 }
 
-fn from_to(low: u32, high: u32, x: u32) -> bool
+pub fn from_to(low: u32, high: u32, x: u32) -> bool
     ensures { λ b. ⌜ b ≡ fromTo low high x ⌝ }
 {
     if x < low {

@@ -13,7 +13,7 @@ use Rattle.calibrator.specs.declared.Calibrator.{Calibrator}
 use Rattle.calibrator.specs.Feeding.{freshOf}
 use Rattle.feeds.specs.FeedList.{answerAt, buffersAt}
 use Rattle.station.specs.Calls.{answersBy, buffersBy}
-use Rattle.station.proofs.OpenedLaws.{number-is, passed-at-zero}
+use Rattle.table.proofs.OpenedLaws.{number-is, passed-at-zero}
 use borrow.Author.Needs.{needs}
 use Rattle.station.proofs.sounder_feed_all.Statement.{statement}
 use Rattle.station.proofs.sounder_feed_all.Tie as tie

@@ -1,6 +1,6 @@
 -- `station::sounder_open` meets its contract: the number is that of the answer, and the answer that of the bytes. Assumes nothing.
 use borrow.Author.Needs.{needs}
-use Rattle.station.proofs.OpenedLaws.{number-is}
+use Rattle.table.proofs.OpenedLaws.{number-is}
 use Rattle.station.proofs.sounder_open.Statement.{statement}
 use Rattle.station.proofs.sounder_open.Tie as tie
 

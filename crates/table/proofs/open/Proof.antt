@@ -1,14 +1,12 @@
 -- `open` meets its contract: each return is what the tests that led there make of `opening`, and the copy of as many bytes is the bytes.
-use Prim.Native.Nat.{ℕ, _≤_}
+use Prim.Native.Nat.{ℕ}
 use native.Mathlib.Omega.{arith}
-use native.Mathlib.Nat.{le-refl}
 use mathlib.Core.Path.{_≡_, refl, ap, _∙_}
-use mathlib.Core.List.{List, _++_, append-nil}
-use lib.ListN.{length, take, drop, drop-of-length-le}
-use lib.Seq.{take-all}
+use mathlib.Core.List.{List}
 use denote.Ref.{now}
 use borrow.Author.Needs.{needs}
 use Rattle.lists.specs.Tests.{Verdict}
+use Rattle.lists.proofs.Put.{copied-whole}
 use Rattle.fields.specs.Fields.{layoutIsRight, layoutSize}
 use Rattle.table.specs.Settings.{tableLayout}
 use Rattle.table.specs.Opening.{ages, verdictOf, opening, tableBy}
@@ -21,12 +19,6 @@ use Rattle.table.proofs.open.Tie as tie
 opened-by : (bytes : List ℕ) {verdict answered : Verdict} {table : List ℕ} → opening bytes ≡ verdict → answered ≡ verdict → table ≡ tableBy verdict bytes
     → (answered ≡ opening bytes) × (table ≡ tableBy (opening bytes) bytes)
 opened-by bytes known answers given = rw known (answers, given)
-
--- a list that is copied over one as long
-copied-whole : (src dst out : List ℕ) → length src ≡ length dst → out ≡ take (length src) src ++ drop (length src) dst → out ≡ src
-copied-whole src dst out long copied =
-    let room : length dst ≤ length src = omega arith in
-    copied ∙ rw (take-all (length src) src (le-refl (length src)), drop-of-length-le dst room) (append-nil src)
 
 layout-answers : (c : tie.After-layout-is-right)
     → c .layout-is-right .result ≡ layoutIsRight (now (c .before .before .before .before .before .args .bytes)) 0 (tableLayout ages)

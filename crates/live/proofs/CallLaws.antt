@@ -1,0 +1,128 @@
+-- What a call answers and leaves, by the tests that led to its return.
+use Prim.Native.Nat.{ℕ, _<_, _≤_}
+use native.Mathlib.Omega.{arith}
+use mathlib.Core.Path.{_≡_, refl, sym, ap, subst, _∙_}
+use mathlib.Core.List.{List}
+use mathlib.Core.Bool.{Bool, true, false, _&&_}
+use lib.Dec.{leb, eqb}
+use lib.ListN.{length}
+use borrow.Author.Tests.{lt-ltb, le-ltb, lt-leb, le-leb, ne-eqb}
+use Rattle.lists.specs.Tests.{Verdict, passes, fails, numberOf}
+use Rattle.table.specs.Opening.{opening}
+use Rattle.calibrator.specs.declared.Calibrator.{Calibrator}
+use Rattle.calibrator.specs.declared.Answer.{Answer}
+use Rattle.calibrator.specs.declared.Answer.the-variants.{Accepted, Refused}
+use Rattle.calibrator.specs.declared.Refusal.{Refusal}
+use Rattle.calibrator.specs.declared.Refusal.the-variants.{LengthWrong, FieldWrong, NumberNotAbove, BufferShort}
+use Rattle.calibrator.specs.Refusals.{Reply, refusalNumber, replyOf, replyNumber}
+use Rattle.calibrator.specs.Feeding.{Feed, Stepped, step, freshOf, Leaves}
+use Rattle.state.specs.State.{saved, stateSize, calibratorIn, tableIn, windowIn, windowInside, frontIsRight, isState}
+use Rattle.live.specs.Calls.{noState, andThen, roomFor, freshVerdict, freshBy, stateBy, leftBy, leftIf, fedState, CallLeaves}
+
+-- ---- a fresh state
+
+pub record FreshLeaves (table state : List ℕ) (answer : ℕ) (left : List ℕ) : Type 0 where
+  pub answer-is : answer ≡ numberOf (freshVerdict table state)
+  pub state-is : left ≡ freshBy (freshVerdict table state) table state
+
+module _ (table state : List ℕ) where
+  fresh-by : {verdict : Verdict} {answer : ℕ} {left : List ℕ} → freshVerdict table state ≡ verdict → answer ≡ numberOf verdict → left ≡ freshBy verdict table state
+      → FreshLeaves table state answer left
+  fresh-by known answers leaves =
+      record { answer-is = answers ∙ sym (ap numberOf known); state-is = leaves ∙ sym (ap (λ (v : Verdict). freshBy v table state) known) }
+
+  pub refused-by-table : (numberOf (opening table) ≡ 0 → ⊥) → FreshLeaves table state (numberOf (opening table)) state
+  refused-by-table some = by-verdict (opening table) refl some
+    where
+      by-verdict : (v : Verdict) → opening table ≡ v → (numberOf v ≡ 0 → ⊥) → FreshLeaves table state (numberOf v) state
+      by-verdict passes is some = absurd (some refl)
+      by-verdict (fails n) is some = fresh-by (ap (λ (v : Verdict). andThen v (roomFor state)) is) refl refl
+
+  module _ (passed : opening table ≡ passes) where
+    pub no-room : length state < stateSize → FreshLeaves table state noState state
+    no-room short = fresh-by {verdict = fails noState} (ap (λ (v : Verdict). andThen v (roomFor state)) passed ∙ rw (lt-ltb (length state) stateSize short)) refl refl
+
+    module _ (room : stateSize ≤ length state) where
+      pub fresh-passes : freshVerdict table state ≡ passes
+      fresh-passes = ap (λ (v : Verdict). andThen v (roomFor state)) passed ∙ rw (le-ltb (length state) stateSize room)
+
+      pub fresh-saved : {left : List ℕ} → left ≡ saved state (freshOf (record { bytes = table })) → FreshLeaves table state 0 left
+      fresh-saved is = fresh-by {verdict = passes} fresh-passes refl is
+
+-- ---- which bytes are a state
+
+and-fails : (a : Bool) {b : Bool} → b ≡ false → (a && b) ≡ false
+and-fails true wrong = wrong
+and-fails false wrong = refl
+
+module _ (state : List ℕ) where
+  abbrev tableAnswers : Bool
+  tableAnswers = eqb (numberOf (opening (tableIn state))) 0
+
+  pub short-is-no-state : length state < stateSize → isState state ≡ false
+  unfolding isState
+  short-is-no-state short = rw (lt-leb stateSize (length state) short)
+
+  pub wrong-front-is-no-state : frontIsRight state ≡ false → isState state ≡ false
+  unfolding isState
+  wrong-front-is-no-state wrong = and-fails (leb stateSize (length state)) (rw wrong)
+
+  pub refused-table-is-no-state : (numberOf (opening (tableIn state)) ≡ 0 → ⊥) → isState state ≡ false
+  unfolding isState
+  refused-table-is-no-state some =
+      and-fails (leb stateSize (length state)) (and-fails (frontIsRight state) (rw (ne-eqb (numberOf (opening (tableIn state))) 0 some)))
+
+  pub window-outside-is-no-state : windowInside (windowIn state) ≡ false → isState state ≡ false
+  unfolding isState
+  window-outside-is-no-state outside =
+      and-fails (leb stateSize (length state)) (and-fails (frontIsRight state) (and-fails tableAnswers (rw outside)))
+
+  pub is-state-when : stateSize ≤ length state → frontIsRight state ≡ true → opening (tableIn state) ≡ passes → windowInside (windowIn state) ≡ true → isState state ≡ true
+  unfolding isState
+  is-state-when long right passed inside = rw (le-leb stateSize (length state) long, right, passed, inside)
+
+  module _ (feed : Feed) where
+    pub no-state-leaves : isState state ≡ false → CallLeaves (fedState state feed) noState state (feed .buffer)
+    unfolding fedState
+    no-state-leaves wrong =
+        subst (λ (b : Bool). CallLeaves (leftIf b state feed) noState state (feed .buffer)) (sym wrong) (record { answer-is = refl; state-is = refl; buffer-is = refl })
+
+    pub state-leaves : isState state ≡ true → {n : ℕ} {left buffer : List ℕ} → CallLeaves (leftBy state (step (calibratorIn state) feed)) n left buffer
+        → CallLeaves (fedState state feed) n left buffer
+    unfolding fedState
+    state-leaves right {n} {left} {buffer} leaves = subst (λ (b : Bool). CallLeaves (leftIf b state feed) n left buffer) (sym right) leaves
+
+-- ---- a feed of the calibrator that was read
+
+module _ {stepped : Stepped} {calibrator : Calibrator} {answer : Answer} {buffer : List ℕ} (fed : Leaves stepped calibrator answer buffer) (state : List ℕ) where
+  stays : (answer : Answer) → (replyNumber (replyOf answer) ≡ 0 → ⊥) → (c : Calibrator) → state ≡ stateBy (replyOf answer) state c
+  stays (Accepted n) some c = absurd (some refl)
+  stays (Refused refusal) some c = refl
+
+  no-refusal-is-zero : (refusal : Refusal) → refusalNumber refusal ≡ 0 → ⊥
+  no-refusal-is-zero LengthWrong is = omega (arith, is)
+  no-refusal-is-zero FieldWrong is = omega (arith, is)
+  no-refusal-is-zero NumberNotAbove is = omega (arith, is)
+  no-refusal-is-zero BufferShort is = omega (arith, is)
+
+  moves : (answer : Answer) → replyNumber (replyOf answer) ≡ 0 → (c : Calibrator) → saved state c ≡ stateBy (replyOf answer) state c
+  moves (Accepted n) none c = refl
+  moves (Refused refusal) none c = absurd (no-refusal-is-zero refusal none)
+
+  by-reply : stateBy (replyOf answer) state (stepped .calibrator) ≡ leftBy state stepped .state
+  by-reply = ap (λ (reply : Reply). stateBy reply state (stepped .calibrator)) (fed .reply-is)
+
+  module _ {n : ℕ} (numbered : n ≡ replyNumber (replyOf answer)) where
+    pub refused-leaves : (n ≡ 0 → ⊥) → CallLeaves (leftBy state stepped) n state buffer
+    refused-leaves some = record {
+      answer-is = numbered ∙ ap replyNumber (fed .reply-is);
+      state-is = stays answer (λ none. some (numbered ∙ none)) (stepped .calibrator) ∙ by-reply;
+      buffer-is = fed .buffer-is;
+    }
+
+    pub accepted-leaves : n ≡ 0 → {left : List ℕ} → left ≡ saved state calibrator → CallLeaves (leftBy state stepped) 0 left buffer
+    accepted-leaves none is = record {
+      answer-is = sym none ∙ numbered ∙ ap replyNumber (fed .reply-is);
+      state-is = is ∙ ap (saved state) (fed .calibrator-is) ∙ moves answer (sym numbered ∙ none) (stepped .calibrator) ∙ by-reply;
+      buffer-is = fed .buffer-is;
+    }

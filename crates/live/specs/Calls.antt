@@ -1,0 +1,63 @@
+-- What a station calls scan by scan: what each call answers, and what it leaves in the state and in the buffer. A refusal writes nothing, and a
+-- longer state keeps the bytes behind it.
+use Prim.Native.Nat.{ℕ}
+use mathlib.Core.Path.{_≡_}
+use mathlib.Core.List.{List, [], _∷_}
+use mathlib.Core.Bool.{Bool, true, false}
+use lib.Dec.{ltb}
+use lib.ListN.{length}
+use Rattle.lists.specs.Tests.{Verdict, passes, fails, _when_, firstThatApplies}
+use Rattle.table.specs.Opening.{opening}
+use Rattle.calibrator.specs.declared.Calibrator.{Calibrator}
+use Rattle.calibrator.specs.Refusals.{Reply, delivered, refused, replyNumber}
+use Rattle.calibrator.specs.Feeding.{Feed, Stepped, freshOf, step}
+use Rattle.state.specs.State.{stateSize, saved, calibratorIn, isState}
+
+-- no state, or none has room
+abbrev pub noState : ℕ
+noState = 254
+
+-- ---- a fresh state: the table's refusal, then 254 where the state is too short
+abbrev pub andThen : Verdict → Verdict → Verdict
+andThen passes more = more
+andThen (fails n) more = fails n
+
+abbrev pub roomFor : List ℕ → Verdict
+roomFor state = firstThatApplies ((noState when ltb (length state) stateSize) ∷ [])
+
+abbrev pub freshVerdict : List ℕ → List ℕ → Verdict
+freshVerdict table state = andThen (opening table) (roomFor state)
+
+abbrev pub freshBy : Verdict → List ℕ → List ℕ → List ℕ
+freshBy passes table state = saved state (freshOf (record { bytes = table }))
+freshBy (fails n) table state = state
+
+-- ---- feeding a scan: 254 where the bytes are no state, then as document 01 says
+pub record Left : Type 0 where
+  pub answer : ℕ
+  pub state : List ℕ
+  pub buffer : List ℕ
+
+abbrev pub stateBy : Reply → List ℕ → Calibrator → List ℕ
+stateBy (delivered n) state c = saved state c
+stateBy (refused n) state c = state
+
+abbrev pub leftBy : List ℕ → Stepped → Left
+leftBy state stepped = record {
+  answer = replyNumber (stepped .outcome .reply);
+  state = stateBy (stepped .outcome .reply) state (stepped .calibrator);
+  buffer = stepped .outcome .buffer;
+}
+
+abbrev pub leftIf : Bool → List ℕ → Feed → Left
+leftIf true state feed = leftBy state (step (calibratorIn state) feed)
+leftIf false state feed = record { answer = noState; state = state; buffer = feed .buffer }
+
+unfoldable pub fedState : List ℕ → Feed → Left
+fedState state feed = leftIf (isState state) state feed
+
+-- a call leaves this: the answer, the state and the buffer
+pub record CallLeaves (left : Left) (answer : ℕ) (state buffer : List ℕ) : Type 0 where
+  pub answer-is : answer ≡ left .answer
+  pub state-is : state ≡ left .state
+  pub buffer-is : buffer ≡ left .buffer

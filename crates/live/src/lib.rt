@@ -1,0 +1,70 @@
+// Scan by scan: what a station calls on a state in its own memory.
+ghost use mathlib.Core.Path.{_≡_};
+ghost use Prim.Native.Nat.{_≤_};
+ghost use lib.ListN.{length};
+ghost use Rattle.lists.specs.Tests.{numberOf};
+ghost use Rattle.calibrator.specs.Feeding.{step, Sound};
+ghost use Rattle.state.specs.State.{stateSize};
+ghost use Rattle.live.specs.Calls.{freshVerdict, freshBy, leftBy, fedState, CallLeaves};
+use calibrator::Calibrator;
+use state::STATE_SIZE;
+use state::TABLE_AT;
+use table::TABLE_SIZE;
+
+// The answer where the bytes are no state, or no state has room.
+const NO_STATE: u8 = 254;
+
+// A fresh state under this table: 0, the number of the table's refusal, or 254 where the state is too short.
+pub fn fresh(table: &[u8], state: &mut [u8]) -> u8
+    ensures { λ n. ⌜ (n ≡ numberOf (freshVerdict (now (table .entry)) (now (state .entry)))) × (now (state .exit) ≡ freshBy (freshVerdict (now (table .entry)) (now (state .entry))) (now (table .entry)) (now (state .entry))) ⌝ }
+{
+    let opened = table::open(table);
+    let answer = opened.answer;
+    let number = table::refusal_number(answer);
+    if number != 0 {
+        return number;
+    }
+    if state.len() < STATE_SIZE {
+        return NO_STATE;
+    }
+    state::save(state, Calibrator::fresh(opened.table()));
+    0
+}
+
+// Feeds a scan to the calibrator that was read from the state, and saves what an accepted scan makes of it.
+fn feed_restored(calibrator: Calibrator, state: &mut [u8], scan: &[u8], buffer: &mut [u8]) -> u8
+    requires { ⌜ Sound calibrator × (stateSize ≤ length (now state)) ⌝ }
+    ensures { λ n. ⌜ CallLeaves (leftBy (now (state .entry)) (step calibrator (record { scan = now (scan .entry); buffer = now (buffer .entry) }))) n (now (state .exit)) (now (buffer .exit)) ⌝ }
+{
+    let fed = calibrator.feed(scan, buffer);
+    let answer = fed.answer;
+    let number = calibrator::answer_number(answer);
+    if number != 0 {
+        return number;
+    }
+    state::save(state, fed.calibrator);
+    0
+}
+
+// Feeds a scan to the calibrator of a state: 254 where the bytes are no state, 4 to 7, or 0.
+pub fn feed(state: &mut [u8], scan: &[u8], buffer: &mut [u8]) -> u8
+    ensures { λ n. ⌜ CallLeaves (fedState (now (state .entry)) (record { scan = now (scan .entry); buffer = now (buffer .entry) })) n (now (state .exit)) (now (buffer .exit)) ⌝ }
+{
+    if state.len() < STATE_SIZE {
+        return NO_STATE;
+    }
+    if !state::front_is_right(state) {
+        return NO_STATE;
+    }
+    let opened = table::open(&state[TABLE_AT..TABLE_AT + TABLE_SIZE]);
+    let answer = opened.answer;
+    if table::refusal_number(answer) != 0 {
+        return NO_STATE;
+    }
+    let window = state::window_in(state);
+    if !state::window_inside(window) {
+        return NO_STATE;
+    }
+    let calibrator = Calibrator::restored(opened.table(), window);
+    feed_restored(calibrator, state, scan, buffer)
+}

@@ -1,0 +1,113 @@
+-- Fields that are put into a buffer: a head and the value behind it are the field, and the fields of a state, put one after the other, are it.
+use Prim.Native.Nat.{ℕ, _+_, _*_, _-_, _≤_}
+use native.Mathlib.Omega.{arith}
+use mathlib.Core.Path.{_≡_, refl, sym, ap, _∙_}
+use mathlib.Core.List.{List, _++_, append-assoc, append-nil}
+use lib.ListN.{length, take, drop, length-append}
+use Rattle.lists.specs.Build.{put}
+use Rattle.lists.proofs.Put.{length-put, put-after-put, part-is-take, length-part, lent-part-is-put, copied-whole}
+use Rattle.fields.specs.Fields.{Field, headSize, field, fieldBytes, fieldAt}
+use Rattle.fields.proofs.LayoutLaws.{fieldStart}
+use Rattle.fields.proofs.FieldBytes.{headBytes}
+use Rattle.table.specs.Opening.{tableSize}
+use Rattle.window.specs.declared.Window.{Window}
+use Rattle.calibrator.specs.declared.Calibrator.{Calibrator}
+use Rattle.state.specs.State.{saved, countsKept, kelvinsKept, stateLayout, stateSize, frontBytes, lastBytes, numberBytes, stateOf}
+use Rattle.state.specs.Steps.{windowStart, windowBytes}
+use Rattle.state.proofs.NumberLaws.{length-number-bytes}
+use Rattle.state.proofs.WindowLaws.{Shaped}
+
+module _ (out whole value : List ℕ) (at : ℕ) (f : Field) (fits : at + headSize + length value ≤ length out) (headed : whole ≡ put out at (headBytes f)) where
+  pub value-put : {next : List ℕ} → next ≡ put whole (at + headSize) value → next ≡ put out at (fieldBytes f value)
+  value-put is =
+      is
+      ∙ ap (λ (l : List ℕ). put l (at + headSize) value) headed
+      ∙ put-after-put out (headBytes f) value at (at + headSize) refl (omega arith)
+
+  -- the place of the value was lent, and came back as `part`
+  pub value-lent : (part : List ℕ) → part ≡ value
+      → take (at + headSize) whole ++ (part ++ drop (at + headSize + length value - (at + headSize)) (drop (at + headSize) whole)) ≡ put out at (fieldBytes f value)
+  value-lent part is =
+      value-put
+      (lent-part-is-put whole part (at + headSize) (at + headSize + length value) (ap (λ (l : List ℕ). at + headSize + length l) is) ∙ ap (put whole (at + headSize)) is)
+
+  pub value-copied : (part : List ℕ) → part ≡ take (length value) value ++ drop (length value) (take (at + headSize + length value - (at + headSize)) (drop (at + headSize) whole))
+      → take (at + headSize) whole ++ (part ++ drop (at + headSize + length value - (at + headSize)) (drop (at + headSize) whole)) ≡ put out at (fieldBytes f value)
+  value-copied part copied =
+      let start = at + headSize in
+      let long : length whole ≡ length out = ap length headed ∙ length-put out (headBytes f) at (omega arith) in
+      let same = ap length (part-is-take whole start (length value)) ∙ length-part whole start (length value) (omega arith) in
+      value-lent part (copied-whole value _ part (sym same) copied)
+
+-- ---- the window's fields, one after the other
+
+-- the field of numbers that are n
+number-field : (tag n : ℕ) (numbers : List ℕ) → length numbers ≡ n → fieldBytes (field tag (4 * length numbers)) (numberBytes numbers) ≡ fieldBytes (field tag (4 * n)) (numberBytes numbers)
+number-field tag n numbers long = ap (λ (k : ℕ). fieldBytes (field tag (4 * k)) (numberBytes numbers)) long
+
+module _ (out : List ℕ) (w : Window) (room : stateSize ≤ length out) (shaped : Shaped w) where
+  abbrev lastField : List ℕ
+  lastField = fieldBytes (fieldAt stateLayout 2) (lastBytes (w .any) (w .last))
+
+  abbrev warmField : List ℕ
+  warmField = fieldBytes (fieldAt stateLayout 3) (numberBytes (w .warm))
+
+  abbrev coldField : List ℕ
+  coldField = fieldBytes (fieldAt stateLayout 4) (numberBytes (w .cold))
+
+  abbrev kelvinField : List ℕ
+  kelvinField = fieldBytes (fieldAt stateLayout 5) (numberBytes (w .kelvin))
+
+  warm-ends : windowStart + length (lastField ++ warmField) ≡ fieldStart stateLayout 4
+  warm-ends = omega (arith, length-append lastField warmField, length-number-bytes (w .warm), shaped .warm)
+
+  cold-ends : windowStart + length (lastField ++ warmField ++ coldField) ≡ fieldStart stateLayout 5
+  cold-ends = omega (arith, length-append (lastField ++ warmField) coldField, warm-ends, length-number-bytes (w .cold), shaped .cold)
+
+  pub window-put : {a b c d : List ℕ} → a ≡ put out windowStart lastField
+      → b ≡ put a (fieldStart stateLayout 3) (fieldBytes (field 0x33 (4 * length (w .warm))) (numberBytes (w .warm)))
+      → c ≡ put b (fieldStart stateLayout 4) (fieldBytes (field 0x34 (4 * length (w .cold))) (numberBytes (w .cold)))
+      → d ≡ put c (fieldStart stateLayout 5) (fieldBytes (field 0x35 (4 * length (w .kelvin))) (numberBytes (w .kelvin)))
+      → d ≡ put out windowStart (windowBytes w)
+  unfolding windowBytes
+  window-put {a} {b} {c} last warm cold kelvin =
+      let second : b ≡ put out windowStart (lastField ++ warmField) =
+      warm
+      ∙ ap (put a (fieldStart stateLayout 3)) (number-field 0x33 countsKept (w .warm) (shaped .warm))
+      ∙ ap (λ (l : List ℕ). put l (fieldStart stateLayout 3) warmField) last
+      ∙ put-after-put out lastField warmField windowStart (fieldStart stateLayout 3) refl (omega arith) in
+      let third : c ≡ put out windowStart (lastField ++ warmField ++ coldField) =
+      cold
+      ∙ ap (put b (fieldStart stateLayout 4)) (number-field 0x34 countsKept (w .cold) (shaped .cold))
+      ∙ ap (λ (l : List ℕ). put l (fieldStart stateLayout 4) coldField) second
+      ∙ put-after-put out (lastField ++ warmField) coldField windowStart _ warm-ends (omega arith) in
+      kelvin
+      ∙ ap (put c (fieldStart stateLayout 5)) (number-field 0x35 kelvinsKept (w .kelvin) (shaped .kelvin))
+      ∙ ap (λ (l : List ℕ). put l (fieldStart stateLayout 5) kelvinField) third
+      ∙ put-after-put out (lastField ++ warmField ++ coldField) kelvinField windowStart _ cold-ends (omega arith)
+
+-- ---- a whole state
+
+module _ (out : List ℕ) (c : Calibrator) (room : stateSize ≤ length out) (long : length (c .table .bytes) ≡ tableSize) where
+  abbrev frontField : List ℕ
+  frontField = fieldBytes (fieldAt stateLayout 0) frontBytes
+
+  abbrev tableField : List ℕ
+  tableField = fieldBytes (fieldAt stateLayout 1) (c .table .bytes)
+
+  fields-are-state : frontField ++ tableField ++ windowBytes (c .window) ≡ stateOf c
+  unfolding windowBytes stateOf
+  fields-are-state = simp (append-assoc, append-nil)
+
+  pub state-put : {a b d : List ℕ} → a ≡ put out 0 frontField → b ≡ put a (fieldStart stateLayout 1) (fieldBytes (field 0x31 (length (c .table .bytes))) (c .table .bytes)) → d ≡ put b windowStart (windowBytes (c .window))
+      → d ≡ saved out c
+  state-put {a} {b} front table window =
+      let second : b ≡ put out 0 (frontField ++ tableField) =
+      table
+      ∙ ap (λ (n : ℕ). put a (fieldStart stateLayout 1) (fieldBytes (field 0x31 n) (c .table .bytes))) long
+      ∙ ap (λ (l : List ℕ). put l (fieldStart stateLayout 1) tableField) front
+      ∙ put-after-put out frontField tableField 0 (fieldStart stateLayout 1) refl (omega arith) in
+      window
+      ∙ ap (λ (l : List ℕ). put l windowStart (windowBytes (c .window))) second
+      ∙ put-after-put out (frontField ++ tableField) (windowBytes (c .window)) 0 windowStart (omega (arith, long)) (omega arith)
+      ∙ ap (put out 0) fields-are-state

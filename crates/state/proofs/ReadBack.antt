@@ -1,0 +1,107 @@
+-- What is written is read back as the same calibrator, whatever bytes come behind.
+use Prim.Native.Nat.{ℕ, _+_, _*_, _<_, _≤_}
+use native.Mathlib.Nat.{add-zero}
+use native.Mathlib.Omega.{arith}
+use mathlib.Core.Path.{_≡_, refl, ap, ap₂, _∙_}
+use mathlib.Core.List.{List, [], _∷_, _++_}
+use mathlib.Core.Bool.{Bool, true, false, cond}
+use lib.Dec.{eqb, leb, lit<}
+use lib.ListN.{length, getD, length-append}
+use borrow.Author.Tests.{le-leb, eq-eqb}
+use Rattle.lists.proofs.Stands.{StandsAt, part-that-stands, stands-inside, stands-at-front, stands-behind, stands-itself}
+use Rattle.fields.specs.Numbers.{u32Bytes}
+use Rattle.fields.specs.Fields.{layoutIsRight, laidOut}
+use Rattle.fields.proofs.FieldBytes.{u32-that-stands, Sized, laid-out-before, length-laid-out, value-stands, laid-out-is-right}
+use Rattle.table.specs.Opening.{AcceptedTable}
+use Rattle.table.proofs.OpeningLaws.{accepted-length}
+use Rattle.window.specs.declared.Window.{Window}
+use Rattle.window.specs.Ranges.{WindowRange}
+use Rattle.calibrator.specs.declared.Calibrator.{Calibrator}
+use Rattle.state.specs.State.{magic, version, countsKept, kelvinsKept, stateLayout, stateSize, frontBytes, numberBytes, valuesOf, stateOf, at, tableIn, windowIn, calibratorIn, frontIsRight, isState}
+use Rattle.state.proofs.NumberLaws.{length-number-bytes, numbers-read-back}
+use Rattle.state.proofs.InsideLaws.{ReachedOnly, window-is-inside}
+use Rattle.state.proofs.WindowLaws.{Shaped}
+
+-- what a calibrator keeps to that can be written
+pub record Savable (c : Calibrator) : Type 0 where
+  pub table : AcceptedTable (c .table .bytes)
+  pub shaped : Shaped (c .window)
+  pub range : WindowRange (c .window)
+  pub only : ReachedOnly (c .window)
+
+bytes-sized : (numbers : List ℕ) {n : ℕ} → length numbers ≡ n → length (numberBytes numbers) ≡ 4 * n
+bytes-sized numbers long = length-number-bytes numbers ∙ ap (λ (n : ℕ). 4 * n) long
+
+module _ {c : Calibrator} (savable : Savable c) where
+  sized : Sized stateLayout (valuesOf c)
+  sized = (refl, (accepted-length (savable .table), (refl, (bytes-sized (c .window .warm) (savable .shaped .warm), (bytes-sized (c .window .cold) (savable .shaped .cold), (bytes-sized (c .window .kelvin) (savable .shaped .kelvin), tt))))))
+
+  pub length-state : length (stateOf c) ≡ stateSize
+  unfolding stateOf
+  length-state = length-laid-out stateLayout (valuesOf c) [] sized ∙ add-zero stateSize
+
+  module _ (behind : List ℕ) where
+    abbrev state : List ℕ
+    state = stateOf c ++ behind
+
+    state-is-laid-out : state ≡ laidOut stateLayout (valuesOf c) behind
+    unfolding stateOf
+    state-is-laid-out = laid-out-before stateLayout (valuesOf c) behind
+
+    state-reaches : stateSize ≤ length state
+    state-reaches = omega (arith, length-append (stateOf c) behind, length-state)
+
+    stands : (k : ℕ) → k < 6 → StandsAt state (at k) (getD (valuesOf c) k [])
+    stands k below = rw state-is-laid-out (value-stands stateLayout (valuesOf c) behind sized k below)
+
+    pub table-read-back : tableIn state ≡ c .table .bytes
+    table-read-back = part-that-stands state (c .table .bytes) (at 1) _ 0 (accepted-length (savable .table)) (omega (arith, state-reaches)) (stands 1 (lit< tt))
+
+    last-stands : StandsAt state (at 2 + 1) (u32Bytes (c .window .last))
+    last-stands =
+        let first : List ℕ = cond (c .window .any) 1 0 ∷ [] in
+        let number = u32Bytes (c .window .last) in
+        stands-inside state (first ++ number) number (at 2) 1 (omega arith) (stands 2 (lit< tt)) (stands-behind first number number 1 0 refl (stands-itself number))
+
+    any-byte : getD state (at 2) 0 ≡ cond (c .window .any) 1 0
+    any-byte = stands 2 (lit< tt) .each 0 0 (omega arith)
+
+    any-read : (any : Bool) → eqb (cond any 1 0) 1 ≡ any
+    any-read true = refl
+    any-read false = refl
+
+    pub window-read-back : windowIn state ≡ c .window
+    unfolding windowIn
+    window-read-back =
+        rw (
+          any-byte,
+          any-read (c .window .any),
+          u32-that-stands state (at 2 + 1) (c .window .last) last-stands,
+          numbers-read-back (c .window .warm) state (at 3) countsKept (savable .shaped .warm) (stands 3 (lit< tt)),
+          numbers-read-back (c .window .cold) state (at 4) countsKept (savable .shaped .cold) (stands 4 (lit< tt)),
+          numbers-read-back (c .window .kelvin) state (at 5) kelvinsKept (savable .shaped .kelvin) (stands 5 (lit< tt)),
+        )
+
+    pub read-back : calibratorIn state ≡ c
+    read-back = ap₂ (λ (bytes : List ℕ) (window : Window). record { table = record { bytes = bytes }; window = window }) table-read-back window-read-back
+
+    any-is-bit : (any : Bool) → leb (cond any 1 0) 1 ≡ true
+    any-is-bit true = refl
+    any-is-bit false = refl
+
+    front-is-right : frontIsRight state ≡ true
+    unfolding frontIsRight
+    front-is-right =
+        let front = stands 0 (lit< tt) in
+        let laid : layoutIsRight state 0 stateLayout ≡ true = rw state-is-laid-out (laid-out-is-right stateLayout (valuesOf c) behind sized) in
+        let magic-stands = stands-inside state frontBytes (u32Bytes magic) (at 0) 0 (omega arith) front (stands-at-front (u32Bytes magic) (u32Bytes version)) in
+        let version-stands =
+        stands-inside state frontBytes (u32Bytes version) (at 0) 4 (omega arith) front
+        (stands-behind (u32Bytes magic) (u32Bytes version) (u32Bytes version) 4 0 refl (stands-itself (u32Bytes version))) in
+        let byte : leb (getD state (at 2) 0) 1 ≡ true = rw any-byte (any-is-bit (c .window .any)) in
+        rw (laid, eq-eqb _ magic (u32-that-stands state (at 0) magic magic-stands), eq-eqb _ version (u32-that-stands state (at 0 + 4) version version-stands), byte)
+
+    pub is-state : isState state ≡ true
+    unfolding isState
+    is-state =
+        rw (le-leb stateSize (length state) state-reaches, front-is-right, table-read-back, savable .table .accepted, window-read-back, window-is-inside (savable .range) (savable .only))
