@@ -16,6 +16,8 @@ use Rattle.fields.specs.Fields.{valueStart, valueIn}
 use Rattle.instrument.specs.Instrument.{channels}
 use Rattle.product.specs.Product.{productLayout}
 use Rattle.calibrator.specs.Refusals.{Reply, delivered, refused}
+use Rattle.lines.specs.declared.Stop.{Stop}
+use Rattle.lines.specs.declared.Stop.the-variants.{InputUnread, OutputUnwritten}
 
 -- the bytes of a text in ASCII: each character's number
 abbrev pub ascii : text.String → List ℕ
@@ -57,3 +59,8 @@ replyLine (refused n) product = refusedLine n
 unfoldable pub openingLine : Verdict → List ℕ
 openingLine passes = []
 openingLine (fails number) = refusedLine number
+
+-- the last line of a program that ends early, on standard error
+unfoldable pub stopLine : Stop → List ℕ
+stopLine InputUnread = ascii "stopped: standard input cannot be read\n"
+stopLine OutputUnwritten = ascii "stopped: standard output cannot be written\n"

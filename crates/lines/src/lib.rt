@@ -9,7 +9,7 @@ ghost use Rattle.instrument.specs.Instrument.{channels};
 ghost use Rattle.table.specs.Opening.{verdictOf};
 ghost use Rattle.calibrator.specs.Refusals.{replyOf};
 ghost use Rattle.calibrator.specs.Feeding.{step, Sound};
-ghost use Rattle.lines.specs.Lines.{decimal, refusedLine, flagDigits, scanLine, replyLine, openingLine};
+ghost use Rattle.lines.specs.Lines.{decimal, refusedLine, flagDigits, scanLine, replyLine, openingLine, stopLine};
 ghost use Rattle.lines.specs.Steps.{listedLine, listedOf, calibratedLine, calibratedOf};
 use calibrator::Answer;
 use calibrator::Calibrator;
@@ -24,6 +24,12 @@ const FLAGS_END: usize = FLAGS_AT + CHANNELS;
 
 // The longest line: `scan `, ten digits, ` delivered `, ten digits, ` flags `, a digit for each channel and the line feed.
 pub const LONGEST: usize = 44 + CHANNELS;
+
+// Why a program ends before its input does.
+pub enum Stop {
+    InputUnread,
+    OutputUnwritten,
+}
 
 // The calibrator that is handed back, and how many bytes the line has.
 pub struct Listed {
@@ -135,6 +141,17 @@ pub fn opening_line(opening: Opening, out: &mut [u8; LONGEST]) -> usize
         Opening::LengthWrong => refused_line(1, out),
         Opening::FieldWrong => refused_line(2, out),
         Opening::ValueOutside => refused_line(3, out),
+    }
+}
+
+// The last line of a program that ends early.
+pub fn stop_line(stop: Stop, out: &mut [u8; LONGEST]) -> usize
+    ensures { λ r. ⌜ Counts r (now (out .exit)) ⌝ }
+    ensures { λ r. ⌜ (r ≡ length (stopLine stop)) × (now (out .exit) ≡ put (now (out .entry)) 0 (stopLine stop)) ⌝ }
+{
+    match stop {
+        Stop::InputUnread => put_text(out, 0, b"stopped: standard input cannot be read\n"),
+        Stop::OutputUnwritten => put_text(out, 0, b"stopped: standard output cannot be written\n"),
     }
 }
 

@@ -4,6 +4,7 @@ use calibrator::Calibrator;
 use libc::STDERR_FILENO;
 use libc::STDIN_FILENO;
 use libc::STDOUT_FILENO;
+use lines::Stop;
 use product::PRODUCT_SIZE;
 use record::RECORD_SIZE;
 use table::Opening;
@@ -21,14 +22,40 @@ pub enum Program {
     Calibrate,
 }
 
-// Whether there may be another record, and the calibrator that is handed back.
-struct Turned {
-    more: bool,
+// Whether there may be another record.
+enum Next {
+    More,
+    Ended,
+    Stopped(Stop),
+}
+
+// How many bytes of a record were read, and what comes after them.
+struct Got {
+    size: usize,
+    next: Next,
+}
+
+// Whether standard output took all that was for it, and the calibrator that is handed back.
+struct Written {
+    complete: bool,
     calibrator: Calibrator,
 }
 
+// What comes after a record, and the calibrator that is handed back.
+struct Turned {
+    next: Next,
+    calibrator: Calibrator,
+}
+
+// Says why the program ends early, as far as standard error can be written.
+fn say_stop(stop: Stop) {
+    let mut line = [0u8; lines::LONGEST];
+    let size = lines::stop_line(stop, &mut line);
+    io::write_all(STDERR_FILENO, &line[..size]);
+}
+
 // Prints the line of a record.
-fn list(calibrator: Calibrator, scan: &[u8]) -> Turned
+fn list(calibrator: Calibrator, scan: &[u8]) -> Written
     requires { ⌜ Sound calibrator ⌝ }
     ensures { λ t. ⌜ t .calibrator ≡ listedOf calibrator (now (scan .entry)) .calibrator ⌝ }
     ensures { λ t. ⌜ Sound (t .calibrator) ⌝ }
@@ -37,14 +64,15 @@ fn list(calibrator: Calibrator, scan: &[u8]) -> Turned
     let listed = lines::list_record(calibrator, scan, &mut line);
     let size = listed.size;
     let next = listed.calibrator;
-    Turned {
-        more: io::write_all(STDOUT_FILENO, &line[..size]),
+    Written {
+        complete: io::write_all(STDOUT_FILENO, &line[..size]),
         calibrator: next,
     }
 }
 
-// Writes the product of a record, or its refusal. Of the two one is empty, and `write_all` makes no call for it.
-fn calibrate(calibrator: Calibrator, scan: &[u8]) -> Turned
+// Writes the product of a record, or its refusal. Of the two one is empty, and `write_all` makes no call for it. Products go on
+// where a refusal cannot be written.
+fn calibrate(calibrator: Calibrator, scan: &[u8]) -> Written
     requires { ⌜ Sound calibrator ⌝ }
     ensures { λ t. ⌜ t .calibrator ≡ calibratedOf calibrator (now (scan .entry)) .calibrator ⌝ }
     ensures { λ t. ⌜ Sound (t .calibrator) ⌝ }
@@ -55,34 +83,77 @@ fn calibrate(calibrator: Calibrator, scan: &[u8]) -> Turned
     let output = calibrated.output;
     let errors = calibrated.errors;
     let after = calibrated.calibrator;
-    if !io::write_all(STDOUT_FILENO, &product[..output]) {
-        return Turned {
-            more: false,
-            calibrator: after,
-        };
-    }
-    Turned {
-        more: io::write_all(STDERR_FILENO, &line[..errors]),
+    io::write_all(STDERR_FILENO, &line[..errors]);
+    Written {
+        complete: io::write_all(STDOUT_FILENO, &product[..output]),
         calibrator: after,
     }
 }
 
-// Reads a record, which may be short at the end of the input, and deals with it.
+// Reads until the record is full, the input ends or a read fails, which `io::read_full` does not tell apart. Nothing is read behind an end:
+// a named pipe may get another writer.
+fn read_record(scan: &mut [u8; RECORD_SIZE]) -> Got
+    ensures { λ r. ⌜ Counts (r .size) (now (scan .exit)) ⌝ }
+{
+    let whole: &mut [u8] = scan;
+    let mut size = 0;
+    while size < whole.len() {
+        let answer = libc::read(STDIN_FILENO, &mut whole[size..]);
+        if answer < 0 {
+            return Got {
+                size,
+                next: Next::Stopped(Stop::InputUnread),
+            };
+        }
+        let more = io::count(answer, &whole[size..]);
+        if more == 0 {
+            return Got {
+                size,
+                next: Next::Ended,
+            };
+        }
+        size += more;
+    }
+    Got {
+        size,
+        next: Next::More,
+    }
+}
+
+// Feeds a record and writes what the program makes of it.
+fn write_record(program: Program, calibrator: Calibrator, scan: &[u8]) -> Written
+    requires { ⌜ Sound calibrator ⌝ }
+    ensures { λ w. ⌜ Sound (w .calibrator) ⌝ }
+{
+    match program {
+        Program::Listing => list(calibrator, scan),
+        Program::Calibrate => calibrate(calibrator, scan),
+    }
+}
+
+// Reads a record and deals with it. What came before an end or a failed read is a short record, which is refused.
 fn turn(program: Program, calibrator: Calibrator) -> Turned
     requires { ⌜ Sound calibrator ⌝ }
     ensures { λ t. ⌜ Sound (t .calibrator) ⌝ }
 {
     let mut scan = [0u8; RECORD_SIZE];
-    let n = io::read_full(STDIN_FILENO, &mut scan);
-    if n == 0 {
+    let got = read_record(&mut scan);
+    let size = got.size;
+    let next = got.next;
+    if size == 0 {
+        return Turned { next, calibrator };
+    }
+    let written = write_record(program, calibrator, &scan[..size]);
+    let after = written.calibrator;
+    if !written.complete {
         return Turned {
-            more: false,
-            calibrator,
+            next: Next::Stopped(Stop::OutputUnwritten),
+            calibrator: after,
         };
     }
-    match program {
-        Program::Listing => list(calibrator, &scan[..n]),
-        Program::Calibrate => calibrate(calibrator, &scan[..n]),
+    Turned {
+        next,
+        calibrator: after,
     }
 }
 
@@ -95,10 +166,15 @@ fn each_record(program: Program, calibrator: Calibrator)
     while turns > 0 {
         let t = turn(program, state);
         state = t.calibrator;
-        if !t.more {
-            break;
+        let next = t.next;
+        match next {
+            Next::More => turns -= 1,
+            Next::Ended => return,
+            Next::Stopped(stop) => {
+                say_stop(stop);
+                return;
+            }
         }
-        turns -= 1;
     }
 }
 
@@ -112,7 +188,7 @@ fn refusals_to(program: Program) -> i32
     }
 }
 
-// A refused table gives its line alone, and no record is read.
+// A refused table gives its line alone, and no record is read. Where standard error does not take that line, it takes no other.
 fn with_table(program: Program, bytes: &[u8]) {
     let opened = table::open(bytes);
     let answer = opened.answer;
@@ -122,7 +198,13 @@ fn with_table(program: Program, bytes: &[u8]) {
     }
     let mut line = [0u8; lines::LONGEST];
     let size = lines::opening_line(answer, &mut line);
-    io::write_all(refusals_to(program), &line[..size]);
+    let to = refusals_to(program);
+    if io::write_all(to, &line[..size]) {
+        return;
+    }
+    if to == STDOUT_FILENO {
+        say_stop(Stop::OutputUnwritten);
+    }
 }
 
 // Reads table.bin of the working directory and answers how many bytes it has, a longer one than a table counting as one byte longer. One that

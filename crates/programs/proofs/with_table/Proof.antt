@@ -46,6 +46,15 @@ write-all-requires c κs = search needs
 returns-2 : tie.Need-returns-2
 returns-2 c = search needs
 
+say-stop-requires : tie.Need-say-stop-requires
+say-stop-requires c κs = search needs
+
+returns-3 : tie.Need-returns-3
+returns-3 c = search needs
+
+returns-4 : tie.Need-returns-4
+returns-4 c = search needs
+
 pub with-table-spec : {M : Type 1} → statement M
 with-table-spec =
     tie.close
@@ -61,4 +70,7 @@ with-table-spec =
     array-share-prefix-line
     slice-aggregate-write-all
     write-all-requires
-    returns-2)
+    returns-2
+    say-stop-requires
+    returns-3
+    returns-4)
