@@ -11,7 +11,11 @@ use crate::check::listings::{checked_listing, checked_stream};
 use crate::check::lists::checked_outcomes;
 use crate::check::numbers::checked_division;
 use crate::check::outcomes::Outcome;
-use crate::check::samples::count_samples;
+use crate::check::samples::{count_samples, kept};
+use crate::check::states::{
+    checked_fresh, checked_state_feed, checked_state_run, outcome_of, probe, run_through_states,
+    same_run, StateFunctions, StateOutcome,
+};
 use crate::check::tables::checked_answer;
 use crate::check::thermometers::checked_thermometer;
 use crate::check::twins::checked_twin;
@@ -23,9 +27,12 @@ use crate::generator::numbers::{
 };
 use crate::generator::random::case_seed;
 use crate::generator::random_tables::{seed_neighbours, table_bytes};
+use crate::generator::states::{
+    changed_bytes, fresh_input, state_feed, state_neighbours, StateFeed,
+};
 use crate::generator::thermometers::{thermometer_input, ThermometerInput};
 use crate::generator::twins::alike_twin;
-use crate::second::acceptance::{accepted_samples, AcceptedCount, AcceptedSamples};
+use crate::second::acceptance::{accepted_samples, AcceptedSamples};
 use crate::second::bytes::{field, i16_at, i32_at, layout_is_right, u16_at, u32_at};
 use crate::second::calibrator::judge;
 use crate::second::record::ScanRecord;
@@ -138,26 +145,6 @@ pub fn thermometer(
     same(input, other(&input).map(|t| t as i128), this)
 }
 
-/// What a scan keeps of its accepted samples: of each warm side, then each cold, 0 where no count is
-/// accepted, else one more than the scan value; of each thermometer T, 0 where it is not accepted.
-fn kept(samples: &AcceptedSamples) -> Vec<u32> {
-    let side = |counts: &Vec<AcceptedCount>| {
-        let sum: u32 = counts.iter().map(|count| count.count as u32).sum();
-        match counts.len() {
-            0 => 0,
-            n => 12 * sum / n as u32 + 1,
-        }
-    };
-    let mut values: Vec<u32> = samples.warm.iter().map(side).collect();
-    values.extend(samples.cold.iter().map(side));
-    let mut kelvin = vec![0; 15];
-    for thermometer in &samples.thermometers {
-        kelvin[thermometer.number - 1] = thermometer.temperature as u32;
-    }
-    values.extend(kelvin);
-    values
-}
-
 /// What the scan of each accepted record of a list keeps, given the bytes of table and record.
 pub fn kept_values(
     seed: u64,
@@ -263,11 +250,104 @@ pub fn calibrations(
     same_bytes("products", &products, &this_products)
 }
 
+/// Making a fresh state: the number answered, and the whole memory after it.
+pub fn fresh_states(
+    seed: u64,
+    other: impl Fn(&[u8], &mut [u8]) -> u8,
+    counters: &mut Counters,
+) -> Result<(), String> {
+    let (table, memory) = fresh_input(seed);
+    let (answer, this) = checked_fresh(&table, &memory, counters)?;
+    let mut by_other = memory;
+    same("fresh", other(&table, &mut by_other), answer)?;
+    same_bytes("fresh", &by_other, &this)
+}
+
+fn same_state_outcome(
+    about: &str,
+    other: &StateOutcome,
+    this: &StateOutcome,
+) -> Result<(), String> {
+    same(about, other.answer, this.answer)?;
+    same_bytes(&format!("{about}, state"), &other.state, &this.state)?;
+    same_bytes(&format!("{about}, buffer"), &other.buffer, &this.buffer)
+}
+
+fn same_state_feed(
+    about: &str,
+    feed: &StateFeed,
+    other: impl Fn(&mut [u8], &[u8], &mut [u8]) -> u8,
+    counters: &mut Counters,
+) -> Result<(), String> {
+    let this = checked_state_feed(feed, counters).map_err(|what| format!("{about}: {what}"))?;
+    same_state_outcome(about, &outcome_of(feed, other), &this)
+}
+
+/// One feed to a state: the number answered, and the whole memory of state and buffer after it.
+pub fn state_feeds(
+    seed: u64,
+    other: impl Fn(&mut [u8], &[u8], &mut [u8]) -> u8,
+    counters: &mut Counters,
+) -> Result<(), String> {
+    same_state_feed("the feed", &state_feed(seed), other, counters)
+}
+
+/// The same for every neighbour of a state under the bench table (seed 0) or under an accepted one.
+pub fn all_state_neighbours(
+    seed: u64,
+    other: impl Fn(&mut [u8], &[u8], &mut [u8]) -> u8,
+    counters: &mut Counters,
+) -> Result<(), String> {
+    for (index, neighbour) in state_neighbours(seed).iter().enumerate() {
+        let feed = probe(&neighbour.bytes, index);
+        same_state_feed(&neighbour.description, &feed, &other, counters)?;
+    }
+    Ok(())
+}
+
+/// The same for each byte of a state changed, one at a time.
+pub fn all_state_bytes(
+    seed: u64,
+    other: impl Fn(&mut [u8], &[u8], &mut [u8]) -> u8,
+    counters: &mut Counters,
+) -> Result<(), String> {
+    for (index, state) in changed_bytes(seed).iter().enumerate() {
+        let about = format!("change {index}");
+        same_state_feed(&about, &probe(state, index), &other, counters)?;
+    }
+    Ok(())
+}
+
+/// A list that is fed scan by scan through states: each answer and the whole memory after each feed, and
+/// what the other leaves of the list in one call.
+pub fn state_runs<F, G>(
+    seed: u64,
+    functions: &StateFunctions<F, G>,
+    at_once: impl Fn(&FeedList) -> Vec<Outcome>,
+    counters: &mut Counters,
+) -> Result<(), String>
+where
+    F: Fn(&[u8], &mut [u8]) -> u8,
+    G: Fn(&mut [u8], &[u8], &mut [u8]) -> u8,
+{
+    let list = feed_list(seed);
+    let seed = case_seed(seed, 1);
+    let this = checked_state_run(&list, seed, counters)?;
+    let other = run_through_states(&list, seed, functions, &mut Counters::new())?;
+    same("feeds through states", other.len(), this.len())?;
+    for (index, (other, this)) in other.iter().zip(&this).enumerate() {
+        same_state_outcome(&format!("feed {}", index + 1), other, this)?;
+    }
+    same_run(&other, &at_once(&list))
+}
+
 #[cfg(test)]
 mod tests {
     use super::*;
     use crate::check::outcomes::outcomes;
+    use crate::generator::states::StateValues;
     use crate::second::listing::listing;
+    use crate::second::state;
     use crate::second::thermometer::one_thermometer;
 
     /// Whether a comparison fails at one of the first seeds.
@@ -450,6 +530,148 @@ mod tests {
         assert!(finds(
             |seed, counters| calibrations(seed, wrong, counters),
             40
+        ));
+    }
+
+    #[test]
+    fn fresh_states_differ_where_the_number_is_left() {
+        assert!(!finds(
+            |seed, counters| fresh_states(seed, state::fresh, counters),
+            50
+        ));
+        let wrong = |table: &[u8], memory: &mut [u8]| {
+            let before = memory.to_vec();
+            let answer = state::fresh(table, memory);
+            if answer == 0 {
+                memory[759..763].copy_from_slice(&before[759..763]);
+            }
+            answer
+        };
+        assert!(finds(
+            |seed, counters| fresh_states(seed, wrong, counters),
+            50
+        ));
+        // The room is tested after the table.
+        let wrong = |table: &[u8], memory: &mut [u8]| match memory.len() {
+            0..=2_659 => 254,
+            _ => state::fresh(table, memory),
+        };
+        assert!(finds(
+            |seed, counters| fresh_states(seed, wrong, counters),
+            50
+        ));
+    }
+
+    #[test]
+    fn state_feeds_differ_by_one_byte_of_state_or_buffer() {
+        assert!(!finds(
+            |seed, counters| state_feeds(seed, state::feed, counters),
+            30
+        ));
+        let wrong = |memory: &mut [u8], record: &[u8], buffer: &mut [u8]| {
+            let answer = state::feed(memory, record, buffer);
+            if answer == 0 {
+                memory[2_659] ^= 1;
+            }
+            answer
+        };
+        assert!(finds(
+            |seed, counters| state_feeds(seed, wrong, counters),
+            30
+        ));
+        let wrong = |memory: &mut [u8], record: &[u8], buffer: &mut [u8]| {
+            let answer = state::feed(memory, record, buffer);
+            if let (7, [first, ..]) = (answer, buffer) {
+                *first ^= 1;
+            }
+            answer
+        };
+        assert!(finds(
+            |seed, counters| state_feeds(seed, wrong, counters),
+            200
+        ));
+    }
+
+    #[test]
+    fn state_neighbours_and_bytes_differ_where_a_test_is_left_out() {
+        assert!(!finds(
+            |seed, counters| all_state_neighbours(seed, state::feed, counters),
+            1
+        ));
+        assert!(!finds(
+            |seed, counters| all_state_bytes(seed, state::feed, counters),
+            1
+        ));
+        // Bytes that are taken as a state after a repair that no rule has.
+        type Repair = fn(&mut StateValues);
+        let repairs: [Repair; 4] = [
+            |values| values.accepted = values.accepted.min(1),
+            |values| values.number *= u32::from(values.accepted),
+            |values| values.warm[7][21] = values.warm[7][21].min(786_421),
+            |values| {
+                if values.number == 6 {
+                    values.thermometers[7] = [0; 15];
+                }
+            },
+        ];
+        for repair in repairs {
+            let wrong = |memory: &mut [u8], record: &[u8], buffer: &mut [u8]| {
+                let answer = state::feed(memory, record, buffer);
+                if answer != 254 || memory.len() < 2_660 {
+                    return answer;
+                }
+                let mut values = StateValues::decode(memory);
+                repair(&mut values);
+                state::feed(&mut values.encode(), record, &mut buffer.to_vec())
+            };
+            assert!(finds(
+                |seed, counters| all_state_neighbours(seed, wrong, counters),
+                1
+            ));
+        }
+        let no_version = |memory: &mut [u8], record: &[u8], buffer: &mut [u8]| {
+            let mut repaired = memory.to_vec();
+            repaired[7..11].copy_from_slice(&[0, 0, 0, 1]);
+            state::feed(&mut repaired, record, buffer)
+        };
+        assert!(finds(
+            |seed, counters| all_state_bytes(seed, no_version, counters),
+            1
+        ));
+    }
+
+    #[test]
+    fn state_runs_differ_where_ages_count_records() {
+        let right = StateFunctions {
+            fresh: state::fresh,
+            feed: state::feed,
+        };
+        assert!(!finds(
+            |seed, counters| state_runs(seed, &right, outcomes, counters),
+            4
+        ));
+        let wrong = StateFunctions {
+            fresh: state::fresh,
+            feed: |memory: &mut [u8], record: &[u8], buffer: &mut [u8]| {
+                let answer = state::feed(memory, record, buffer);
+                if answer == 0 && memory[766 + 88..766 + 176].iter().all(|byte| *byte == 0) {
+                    memory.copy_within(766 + 176..1_470, 766 + 88);
+                }
+                answer
+            },
+        };
+        assert!(finds(
+            |seed, counters| state_runs(seed, &wrong, outcomes, counters),
+            8
+        ));
+        let no_product = |list: &FeedList| {
+            let mut all = outcomes(list);
+            all[0].buffer.fill(0);
+            all
+        };
+        assert!(finds(
+            |seed, counters| state_runs(seed, &right, no_product, counters),
+            2
         ));
     }
 }

@@ -14,13 +14,16 @@ use crate::baseline::Constants;
 use crate::check::counters::Counters;
 use crate::check::outcomes::Outcome;
 use crate::check::run::{seed_of_case, Check};
+use crate::check::states::StateFunctions;
 use crate::generator::laid_out::lay_out;
 use crate::generator::layouts::RECORD;
 use crate::generator::lists::FeedList;
 use crate::generator::random::case_seed;
+use crate::generator::records::RecordValues;
 use crate::generator::tables::TableValues;
 use crate::generator::thermometers::ThermometerInput;
 use crate::second::product::LENGTH;
+use crate::second::state;
 use crate::second::station::LaidOut;
 
 extern "C" {
@@ -88,6 +91,21 @@ extern "C" {
         buffer_count: usize,
         answers: *mut u8,
         answer_count: usize,
+    ) -> u8;
+    fn sounder_state_size() -> usize;
+    fn sounder_fresh(
+        table: *const u8,
+        table_length: usize,
+        state: *mut u8,
+        state_length: usize,
+    ) -> u8;
+    fn sounder_feed(
+        state: *mut u8,
+        state_length: usize,
+        record: *const u8,
+        record_length: usize,
+        buffer: *mut u8,
+        buffer_length: usize,
     ) -> u8;
 }
 
@@ -244,26 +262,84 @@ pub fn feed_all(list: &mut LaidOut) -> u8 {
     }
 }
 
-/// Null pointers with a count of 0 are empty: an empty table is refused with 1, and under the bench
-/// table no feed is there.
+/// Writes the state of a fresh calibrator: 0, 1 to 3 of the table, or 254.
+pub fn fresh(table: &[u8], state: &mut [u8]) -> u8 {
+    let (start, length) = (state.as_mut_ptr(), state.len());
+    unsafe { sounder_fresh(table.as_ptr(), table.len(), start, length) }
+}
+
+/// Feeds one record to the calibrator of a state: 0, 254, or 4 to 7.
+pub fn feed(state: &mut [u8], record: &[u8], buffer: &mut [u8]) -> u8 {
+    unsafe {
+        sounder_feed(
+            state.as_mut_ptr(),
+            state.len(),
+            record.as_ptr(),
+            record.len(),
+            buffer.as_mut_ptr(),
+            buffer.len(),
+        )
+    }
+}
+
+/// Bytes behind memory that a function is given, which it must not write.
+const BEHIND: [u8; 64] = [0xc3; 64];
+
+/// Calls a function on a copy of some memory with further bytes behind it.
+fn with_bytes_behind<T>(memory: &mut [u8], call: impl FnOnce(&mut [u8]) -> T) -> T {
+    let length = memory.len();
+    let mut copy = [&*memory, &BEHIND].concat();
+    let answer = call(&mut copy[..length]);
+    assert_eq!(copy[length..], BEHIND, "nothing is written behind memory");
+    memory.copy_from_slice(&copy[..length]);
+    answer
+}
+
+fn guarded_fresh(table: &[u8], state: &mut [u8]) -> u8 {
+    with_bytes_behind(state, |state| fresh(table, state))
+}
+
+fn guarded_feed(state: &mut [u8], record: &[u8], buffer: &mut [u8]) -> u8 {
+    with_bytes_behind(state, |state| {
+        with_bytes_behind(buffer, |buffer| feed(state, record, buffer))
+    })
+}
+
+fn state_size(_: u64, _: &mut Counters) -> Result<(), String> {
+    let size = unsafe { sounder_state_size() };
+    if size == state::state_size() {
+        return Ok(());
+    }
+    Err(format!("the size of a state: {size}"))
+}
+
+/// Null pointers with a count of 0 are empty: an empty table is refused with 1, under the bench table
+/// no feed is there, no memory has room for a state or is one, an empty record is refused with 4 and
+/// an empty buffer with 7.
 fn null_pointers(_: u64, _: &mut Counters) -> Result<(), String> {
     let table = TableValues::bench().encode();
+    let record = RecordValues::bench().encode();
+    let (lengths, room) = (null(), null_mut());
     let mut answers = [77; 3];
-    let (opened, refused, fed) = unsafe {
-        (
+    let mut state = vec![0; state::LENGTH];
+    let made = fresh(&table, &mut state);
+    let before = state.clone();
+    let memory = (state.as_mut_ptr(), state.len());
+    let met = unsafe {
+        [
             sounder_open(null(), 0),
             sounder_feed_all(
                 null(),
                 0,
                 null(),
                 0,
-                null(),
+                lengths,
                 0,
-                null_mut(),
+                room,
                 0,
-                null(),
+                lengths,
                 0,
-                null_mut(),
+                room,
                 0,
             ),
             sounder_feed_all(
@@ -271,31 +347,40 @@ fn null_pointers(_: u64, _: &mut Counters) -> Result<(), String> {
                 table.len(),
                 null(),
                 0,
-                null(),
+                lengths,
                 0,
-                null_mut(),
+                room,
                 0,
-                null(),
+                lengths,
                 0,
                 answers.as_mut_ptr(),
                 answers.len(),
             ),
-        )
+            made,
+            sounder_fresh(null(), 0, room, 0),
+            sounder_fresh(table.as_ptr(), table.len(), room, 0),
+            sounder_feed(room, 0, null(), 0, room, 0),
+            sounder_feed(memory.0, memory.1, null(), 0, room, 0),
+            sounder_feed(memory.0, memory.1, record.as_ptr(), record.len(), room, 0),
+        ]
     };
-    if (opened, refused, fed, answers) == (1, 1, 0, [255; 3]) {
+    if met == [1, 1, 0, 0, 1, 254, 254, 4, 7] && answers == [255; 3] && state == before {
         return Ok(());
     }
-    Err(format!(
-        "null pointers: {opened} {refused} {fed} {answers:?}"
-    ))
+    Err(format!("null pointers: {met:?} {answers:?}"))
 }
 
 /// How many feeds of lists have been compared in this run.
 static COMPARED_FEEDS: AtomicU64 = AtomicU64::new(0);
 
-/// What each feed of a list left.
+/// What each feed of a list left, and counts the feeds.
 fn feeds(list: &FeedList) -> Vec<Outcome> {
     COMPARED_FEEDS.fetch_add(list.feeds.len() as u64, Ordering::Relaxed);
+    outcomes_at_once(list)
+}
+
+/// What each feed of a list left.
+fn outcomes_at_once(list: &FeedList) -> Vec<Outcome> {
     let mut laid_out = lay_out(list);
     assert_eq!(feed_all(&mut laid_out), 0, "a list has an accepted table");
     let mut rest = &laid_out.buffers[..];
@@ -354,7 +439,7 @@ fn calibrate(table: Option<&[u8]>, input: &[u8]) -> (Vec<u8>, String) {
 }
 
 /// The comparisons by the name that `--case` takes, and how many cases of each are run for a thousand.
-pub const KINDS: [(&str, Check, u64); 14] = [
+pub const KINDS: [(&str, Check, u64); 20] = [
     (
         "floor_div",
         |seed, counters| against::divisions(seed, floor_div, counters),
@@ -413,7 +498,38 @@ pub const KINDS: [(&str, Check, u64); 14] = [
         |seed, counters| against::calibrations(seed, calibrate, counters),
         30,
     ),
+    ("state_size", state_size, 1),
+    (
+        "fresh",
+        |seed, counters| against::fresh_states(seed, guarded_fresh, counters),
+        50,
+    ),
+    (
+        "state",
+        |seed, counters| against::state_feeds(seed, guarded_feed, counters),
+        50,
+    ),
+    (
+        "state_neighbours",
+        |seed, counters| against::all_state_neighbours(seed, guarded_feed, counters),
+        1,
+    ),
+    (
+        "state_bytes",
+        |seed, counters| against::all_state_bytes(seed, guarded_feed, counters),
+        1,
+    ),
+    ("state_run", state_run, 10),
 ];
+
+/// A list through states, and in one call.
+fn state_run(seed: u64, counters: &mut Counters) -> Result<(), String> {
+    let functions = StateFunctions {
+        fresh: guarded_fresh,
+        feed: guarded_feed,
+    };
+    against::state_runs(seed, &functions, outcomes_at_once, counters)
+}
 
 /// Runs the cases `first`, `first + step` and so on of a kind, and counts what they met.
 fn run_cases(

@@ -12,6 +12,7 @@ use compare::generator::tables::TableValues;
 use compare::generator::thermometers::{thermometer_input, ThermometerInput};
 use compare::proved;
 use compare::second::product::LENGTH;
+use compare::second::state;
 use compare::second::station::{self, LaidOut};
 
 /// The least time of several rounds for each of these, in nanoseconds a call. They take turns in each
@@ -28,17 +29,33 @@ fn least_times(rounds: usize, calls: usize, timed: &mut [&mut dyn FnMut()]) -> V
     least
 }
 
-/// Times of the proved code, of the same by hand and, where it was timed, of the second implementation.
-fn report(what: &str, unit: &str, unit_nanoseconds: f64, times: &[f64]) {
-    let names = ["proved", "by hand", "second implementation"];
+/// The proved code, the same by hand and, where it was timed, the second implementation.
+const BY_HAND: [&str; 3] = ["proved", "by hand", "second implementation"];
+
+/// Times by these names, and the ratio of the first to the second, with its limit where it has one.
+fn report(
+    what: &str,
+    (unit, unit_nanoseconds): (&str, f64),
+    names: &[&str],
+    times: &[f64],
+    limit: Option<f64>,
+) {
     let shown: Vec<String> = names
         .iter()
         .zip(times)
         .map(|(name, time)| format!("{name} {:.2} {unit}", time / unit_nanoseconds))
         .collect();
     let ratio = times[0] / times[1];
-    println!("{what}: {}; ratio {ratio:.2}", shown.join(", "));
+    let limit = match limit {
+        Some(limit) if ratio > limit => format!(", above its limit {limit}"),
+        Some(limit) => format!(", limit {limit}"),
+        None => String::new(),
+    };
+    println!("{what}: {}; ratio {ratio:.3}{limit}", shown.join(", "));
 }
+
+const NANOSECONDS: (&str, f64) = ("ns", 1.0);
+const MICROSECONDS: (&str, f64) = ("us", 1_000.0);
 
 fn baseline_thermometer(i: &ThermometerInput) -> Result<i32, u8> {
     baseline::thermometer(
@@ -75,7 +92,7 @@ fn thermometers() {
             },
         ],
     );
-    report("one thermometer", "ns", 1.0, &times);
+    report("one thermometer", NANOSECONDS, &BY_HAND, &times, Some(0.27));
 }
 
 /// The channel of a full window of bench scans with weights 8 to 1.
@@ -119,7 +136,7 @@ fn products() {
         ],
     );
     assert!(first == second, "both writers give the same product");
-    report("one product", "us", 1_000.0, &times);
+    report("one product", MICROSECONDS, &BY_HAND, &times, Some(0.55));
 }
 
 /// Consecutive bench scans with earth counts at random between the cold and the warm counts, under the
@@ -194,7 +211,40 @@ fn feeds(count: usize, rounds: usize) {
         ));
         assert!(second == list, "so does the second implementation");
     }
-    report(&format!("one scan of {count}"), "us", 1_000.0, &times);
+    let what = format!("one scan of {count}");
+    report(&what, MICROSECONDS, &BY_HAND, &times, Some(0.62));
+}
+
+/// Feeds a list one record at a time to a state, which is fresh at first.
+fn feeds_of_state(list: &LaidOut, state: &mut [u8], buffers: &mut [u8]) {
+    assert_eq!(proved::fresh(&list.table, state), 0);
+    let (mut scans, mut buffers) = (&list.records[..], buffers);
+    for (size, room) in list.record_lengths.iter().zip(&list.buffer_lengths) {
+        let (record, later_scans) = scans.split_at(*size as usize);
+        let (buffer, later_buffers) = buffers.split_at_mut(*room as usize);
+        assert_eq!(black_box(proved::feed(state, record, buffer)), 0);
+        (scans, buffers) = (later_scans, later_buffers);
+    }
+}
+
+/// What it costs to read and write the state: the same list one record at a time, and in one call.
+fn states() {
+    const COUNT: usize = 100;
+    let mut list = lay_out(&scans(COUNT));
+    let one_by_one = list.clone();
+    let mut state = vec![0; state::LENGTH];
+    let mut buffers = list.buffers.clone();
+    let times = least_times(
+        300,
+        COUNT,
+        &mut [
+            &mut || feeds_of_state(black_box(&one_by_one), &mut state, &mut buffers),
+            &mut || assert_eq!(black_box(proved::feed_all(&mut list)), 0),
+        ],
+    );
+    assert!(list.buffers == buffers, "both give the same products");
+    let names = ["through a state", "in one call"];
+    report("one feed", MICROSECONDS, &names, &times, Some(1.25));
 }
 
 /// What one record adds to the window: its accepted samples, as they are kept.
@@ -220,7 +270,7 @@ fn samples() {
             },
         ],
     );
-    report("one record's samples", "us", 1_000.0, &times);
+    report("one record's samples", MICROSECONDS, &BY_HAND, &times, None);
 }
 
 /// The least that a product costs: each earth count is read, and four bytes are written for it.
@@ -272,6 +322,7 @@ fn main() {
     samples();
     products();
     parts();
+    states();
     feeds(100, 300);
     feeds(1_000, 30);
     feeds(10_000, 5);

@@ -144,6 +144,57 @@ pub const CLASSES: &[(&str, &[&str])] = &[
         ],
     ),
     ("listing", &["scan line", "refused line"]),
+    ("fresh answer", &["0", "1", "2", "3", "254"]),
+    (
+        "two answers of a fresh state",
+        &["1 and 254", "2 and 254", "3 and 254"],
+    ),
+    ("state answer", &["0", "254", "4", "5", "6", "7"]),
+    (
+        "two answers of a state",
+        &["254 and 4", "254 and 5", "254 and 7"],
+    ),
+    (
+        "no state",
+        &[
+            "fewer bytes",
+            "head",
+            "magic number",
+            "version",
+            "table 2",
+            "table 3",
+            "first byte",
+            "number but no scan",
+            "warm value",
+            "cold value",
+            "thermometer value",
+            "value but no scan",
+            "value at an age above the number",
+            "more than one",
+        ],
+    ),
+    ("state length", &["0", "2659", "2660", "2661", "longer"]),
+    ("first byte of 0x32", &["0", "1", "2", "255"]),
+    ("side of a state", &["1", "786421", "786422"]),
+    ("T of a state", &["873061", "873062", "1364582", "1364583"]),
+    ("age of a value", &["at the number", "one above the number"]),
+    (
+        "ahead of a state",
+        &["first", "1", "2", "3", "4", "5", "6", "7", "8", "more"],
+    ),
+    ("side that a record gives", &["0", "1", "786421"]),
+    ("T that a record gives", &["0", "873062", "1364582"]),
+    (
+        "state between feeds",
+        &[
+            "stays",
+            "copied",
+            "moved",
+            "built from its values",
+            "built from records",
+        ],
+    ),
+    ("feeds through states", &["compared"]),
 ];
 
 #[derive(Clone, Debug, Default)]

@@ -5,19 +5,20 @@ use std::collections::BTreeMap;
 use super::counters::Counters;
 use super::outcomes::Outcome;
 use super::products::check_product;
+use super::rules::{scan_values, ScanValues};
 use super::samples::count_samples;
 use super::twins::checked_twin;
 use crate::generator::lists::{feed_list, Feed, FeedList};
 use crate::generator::random::case_seed;
 use crate::generator::twins::alike_twin;
-use crate::second::acceptance::{accepted_samples, AcceptedSamples};
+use crate::second::acceptance::accepted_samples;
 use crate::second::calibrator::Calibrator;
 use crate::second::product::LENGTH;
 use crate::second::table::open;
 use crate::second::window::window_records;
 
 /// Which of 4 to 7 apply to a feed, each stated for itself where it can be.
-fn refusals(feed: &Feed, last: Option<u32>) -> Vec<u8> {
+pub(super) fn refusals(feed: &Feed, last: Option<u32>) -> Vec<u8> {
     let mut all = Vec::new();
     let record = &feed.record;
     if record.len() != 4_629 {
@@ -94,7 +95,7 @@ fn count_feed(feed: &Feed, last: Option<u32>, all: &[u8], counters: &mut Counter
 pub fn checked_outcomes(list: &FeedList, counters: &mut Counters) -> Result<Vec<Outcome>, String> {
     let table = open(&list.table).expect("a list has an accepted table");
     let mut calibrator = Calibrator::fresh(table.clone());
-    let mut accepted: BTreeMap<u32, AcceptedSamples> = BTreeMap::new();
+    let mut accepted: BTreeMap<u32, ScanValues> = BTreeMap::new();
     let mut outcomes = Vec::new();
     for (index, feed) in list.feeds.iter().enumerate() {
         let about = |what: String| format!("feed {} of the list: {what}", index + 1);
@@ -129,7 +130,7 @@ pub fn checked_outcomes(list: &FeedList, counters: &mut Counters) -> Result<Vec<
             }
             let samples = accepted_samples(&table, &record);
             count_samples(&table, &record, &samples, counters);
-            accepted.insert(record.number(), samples);
+            accepted.insert(record.number(), scan_values(&samples));
             let product = &buffer[..LENGTH];
             check_product(&table, &record, product, &accepted, counters).map_err(about)?;
             // The restart feeds up to eight records again, so not after every feed.

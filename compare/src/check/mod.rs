@@ -22,4 +22,6 @@ pub mod twins;
 
 pub mod listings;
 
+pub mod states;
+
 pub mod run;

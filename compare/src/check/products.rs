@@ -4,7 +4,6 @@ use std::collections::BTreeMap;
 
 use super::counters::Counters;
 use super::rules;
-use crate::second::acceptance::AcceptedSamples;
 use crate::second::bytes::layout_is_right;
 use crate::second::product::{flag_of, number_of, scene_of, summary_of, LAYOUT};
 use crate::second::record::{ScanRecord, SCENES};
@@ -186,7 +185,7 @@ pub fn check_product(
     table: &Table,
     record: &ScanRecord,
     product: &[u8],
-    accepted: &BTreeMap<u32, AcceptedSamples>,
+    accepted: &BTreeMap<u32, rules::ScanValues>,
     counters: &mut Counters,
 ) -> Result<(), String> {
     if !layout_is_right(product, &LAYOUT) {
@@ -220,15 +219,18 @@ mod tests {
     use crate::generator::records::RecordValues;
     use crate::generator::tables::TableValues;
     use crate::second::acceptance::accepted_samples;
+    use crate::second::product::product;
     use crate::second::table::open;
+    use crate::second::window::window;
 
     /// The first bench product, with some bytes changed, checked again.
     fn checked(change: impl Fn(&mut [u8])) -> Result<(), String> {
         let table = open(&TableValues::bench().encode()).unwrap();
         let record = ScanRecord::read(&RecordValues::bench().encode()).unwrap();
-        let mut product = crate::second::product::product(&table, &[record.clone()]);
+        let mut product = product(&table, &record, &window(&table, &[record.clone()]));
         change(&mut product);
-        let accepted = BTreeMap::from([(7, accepted_samples(&table, &record))]);
+        let values = rules::scan_values(&accepted_samples(&table, &record));
+        let accepted = BTreeMap::from([(7, values)]);
         check_product(&table, &record, &product, &accepted, &mut Counters::new())
     }
 

@@ -6,6 +6,9 @@ use super::counters::Counters;
 use super::listings::check_listing;
 use super::lists::check_list;
 use super::numbers::check_divisions;
+use super::states::{
+    check_fresh, check_state_bytes, check_state_feed, check_state_neighbours, check_state_run,
+};
 use super::tables::{check_neighbours, check_table};
 use super::thermometers::check_thermometer;
 use crate::generator::random::case_seed;
@@ -14,13 +17,18 @@ use crate::generator::random::case_seed;
 pub type Check = fn(u64, &mut Counters) -> Result<(), String>;
 
 /// The kinds of cases, by the name that `--case` takes.
-pub const KINDS: [(&str, Check); 6] = [
+pub const KINDS: [(&str, Check); 11] = [
     ("division", check_divisions),
     ("neighbours", check_neighbours),
     ("table", check_table),
     ("thermometer", check_thermometer),
     ("list", check_list),
     ("listing", check_listing),
+    ("fresh", check_fresh),
+    ("state", check_state_feed),
+    ("state_neighbours", check_state_neighbours),
+    ("state_bytes", check_state_bytes),
+    ("state_run", check_state_run),
 ];
 
 pub const DEFAULT_SEED: u64 = 20_260_101;
@@ -67,9 +75,9 @@ fn fed(counters: &Counters) -> u64 {
     counts.iter().sum()
 }
 
-/// The seed of a case. The first neighbours are those of the bench table.
+/// The seed of a case. The first neighbours are those of the bench table and of a state under it.
 pub fn seed_of_case(kind: &str, master: u64, index: u64) -> u64 {
-    if kind == "neighbours" && index == 0 {
+    if kind.ends_with("neighbours") && index == 0 {
         0
     } else {
         case_seed(master, index)
@@ -86,6 +94,10 @@ pub fn run_all(seed: u64, feeds: u64, counters: &mut Counters) -> Result<(), Fai
             "table" => feeds / 3 + 1,
             "thermometer" => 5 * feeds,
             "listing" => feeds / 40 + 1,
+            "fresh" => feeds / 10 + 1,
+            "state" => feeds / 8 + 1,
+            "state_neighbours" | "state_bytes" => feeds / 4_000 + 1,
+            "state_run" => feeds / 100 + 1,
             _ => u64::MAX,
         };
         for index in 0..cases {

@@ -1,9 +1,29 @@
 //! Counts at which edges the samples of accepted records stand.
 
 use super::counters::Counters;
-use crate::second::acceptance::{good_counts, target_readings, AcceptedSamples};
+use crate::second::acceptance::{good_counts, target_readings, AcceptedCount, AcceptedSamples};
 use crate::second::record::ScanRecord;
 use crate::second::table::{Limits, Side, Table, CHANNELS, SIDES, TARGETS};
+
+/// What a scan keeps of its accepted samples: of each warm side, then each cold, 0 where no count is
+/// accepted, else one more than the scan value; of each thermometer T, 0 where it is not accepted.
+pub fn kept(samples: &AcceptedSamples) -> Vec<u32> {
+    let side = |counts: &Vec<AcceptedCount>| {
+        let sum: u32 = counts.iter().map(|count| count.count as u32).sum();
+        match counts.len() {
+            0 => 0,
+            n => 12 * sum / n as u32 + 1,
+        }
+    };
+    let mut values: Vec<u32> = samples.warm.iter().map(side).collect();
+    values.extend(samples.cold.iter().map(side));
+    let mut kelvin = vec![0; 15];
+    for thermometer in &samples.thermometers {
+        kelvin[thermometer.number - 1] = thermometer.temperature as u32;
+    }
+    values.extend(kelvin);
+    values
+}
 
 /// Counts which edges the samples of an accepted record stand at.
 pub fn count_samples(

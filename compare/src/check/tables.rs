@@ -37,7 +37,7 @@ pub fn check_table(seed: u64, counters: &mut Counters) -> Result<(), String> {
 }
 
 /// 1, 2 and 3 once more, by positions counted by hand from the start of the table.
-fn plain_answer(bytes: &[u8]) -> u8 {
+pub(super) fn plain_answer(bytes: &[u8]) -> u8 {
     if bytes.len() != 741 {
         return 1;
     }

@@ -11,7 +11,7 @@ use crate::second::calibrator::judge;
 use crate::second::product::LENGTH;
 use crate::second::record::ScanRecord;
 use crate::second::table::{open, Table};
-use crate::second::window::{channel_sums, window};
+use crate::second::window::{channel_sums, window_since, Start};
 
 /// One feed: any bytes as its record, and a buffer as it is before.
 #[derive(Clone, Debug)]
@@ -134,15 +134,27 @@ pub fn random_buffer(random: &mut Random, trouble: usize) -> Vec<u8> {
     }
 }
 
+/// What a record is planned behind.
+pub(super) struct Behind<'a> {
+    pub(super) table: &'a Table,
+    pub(super) start: Start,
+    pub(super) roll: Vec<ScanRecord>,
+}
+
+impl Behind<'_> {
+    /// A fresh calibrator.
+    pub(super) fn nothing(table: &Table) -> Behind<'_> {
+        Behind {
+            table,
+            start: Start::default(),
+            roll: Vec::new(),
+        }
+    }
+}
+
 /// A well-formed record with its calibration samples by the plan and earth counts that aim at
-/// the edges of the window it would have behind this roll.
-fn planned_record(
-    random: &mut Random,
-    plan: &Plan,
-    table: &Table,
-    roll: &[ScanRecord],
-    number: u32,
-) -> RecordValues {
+/// the edges of the window it would have behind this.
+fn planned_record(random: &mut Random, plan: &Plan, behind: &Behind, number: u32) -> RecordValues {
     let mut record = RecordValues::bench();
     record.number = number;
     let thermometers = thermometer_counts(random, &plan.thermometers, &plan.table);
@@ -154,9 +166,10 @@ fn planned_record(
         (record.warm[channel], record.cold[channel]) = counts;
     }
     let own = ScanRecord::read(&record.encode()).expect("the encoder's layout is right");
-    let window = window(table, &[roll, &[own]].concat());
+    let roll = [&behind.roll[..], &[own]].concat();
+    let window = window_since(behind.table, &behind.start, &roll);
     for channel in 0..22 {
-        let sums = channel_sums(table, &window, channel);
+        let sums = channel_sums(behind.table, &window, channel);
         record.earth[channel] = earth_counts(random, &sums);
     }
     record
@@ -176,11 +189,10 @@ fn wrong_record(random: &mut Random, record: &RecordValues) -> Vec<u8> {
 pub(super) fn planned_bytes(
     random: &mut Random,
     plan: &Plan,
-    table: &Table,
-    roll: &[ScanRecord],
+    behind: &Behind,
     number: u32,
 ) -> Vec<u8> {
-    let record = planned_record(random, plan, table, roll, number);
+    let record = planned_record(random, plan, behind, number);
     if random.once_in(plan.trouble) {
         return wrong_record(random, &record);
     }
@@ -206,16 +218,16 @@ pub fn feed_list(seed: u64) -> FeedList {
     let plan = plan(&mut random);
     let table_bytes = plan.table.encode();
     let table = open(&table_bytes).expect("a planned table is accepted");
-    let mut roll: Vec<ScanRecord> = Vec::new();
+    let mut behind = Behind::nothing(&table);
     let mut feeds = Vec::new();
     for _ in 0..random.between(3, 30) {
-        let number = match roll.last() {
+        let number = match behind.roll.last() {
             None => first_number(&mut random),
             Some(last) => next_number(&mut random, last.number(), plan.trouble),
         };
-        let record = planned_bytes(&mut random, &plan, &table, &roll, number);
+        let record = planned_bytes(&mut random, &plan, &behind, number);
         let buffer = random_buffer(&mut random, plan.trouble);
-        join(&mut roll, &record, buffer.len());
+        join(&mut behind.roll, &record, buffer.len());
         feeds.push(Feed { record, buffer });
     }
     FeedList {

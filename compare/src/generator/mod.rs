@@ -35,3 +35,5 @@ pub mod streams;
 pub mod listings;
 
 pub mod laid_out;
+
+pub mod states;

@@ -1,9 +1,8 @@
 //! Streams of records for the programs, which give each record a buffer that is long enough.
 
-use super::lists::{first_number, join, next_number, plan, planned_bytes, Plan};
+use super::lists::{first_number, join, next_number, plan, planned_bytes, Behind, Plan};
 use super::random::Random;
 use crate::second::product::LENGTH;
-use crate::second::record::ScanRecord;
 use crate::second::table::open;
 
 /// Records of 4,629 bytes each, and the table they are planned for.
@@ -42,18 +41,18 @@ pub fn record_stream(seed: u64) -> RecordStream {
     let table = open(&table_bytes).expect("a planned table is accepted");
     let fills_from = random.between(1, 4) as usize;
     let length = random.between(12, 20) as usize;
-    let mut roll: Vec<ScanRecord> = Vec::new();
+    let mut behind = Behind::nothing(&table);
     let mut accepted = 0;
     let mut records = Vec::new();
     while records.len() < length {
-        let number = match roll.last() {
+        let number = match behind.roll.last() {
             None => first_number(&mut random),
             Some(last) => number_behind(&mut random, &plan, last.number(), accepted, fills_from),
         };
-        let record = planned_bytes(&mut random, &plan, &table, &roll, number);
+        let record = planned_bytes(&mut random, &plan, &behind, number);
         // A record of another length would move all those behind it.
         if record.len() == 4_629 {
-            accepted += usize::from(join(&mut roll, &record, LENGTH));
+            accepted += usize::from(join(&mut behind.roll, &record, LENGTH));
             records.push(record);
         }
     }

@@ -1,5 +1,6 @@
-//! The calibrator of document 01, word by word. It keeps no state besides the plain roll: every
-//! product is computed from all accepted records, from scratch.
+//! The calibrator of document 01, word by word. It keeps the plain roll and nothing worked out of it:
+//! every product is computed from all accepted records, from scratch. What a state says stands before
+//! the roll.
 //!
 //! Nothing here imports from the rest of the crate, outside unit tests.
 
@@ -23,6 +24,8 @@ pub mod scene;
 pub mod product;
 
 pub mod calibrator;
+
+pub mod state;
 
 pub mod listing;
 

@@ -4,7 +4,7 @@ use super::bytes::{u16_at, u32_at, value};
 use super::record::{ScanRecord, SCENES};
 use super::scene::{scene, Scene};
 use super::table::{Table, CHANNELS};
-use super::window::{channel_sums, flag, window};
+use super::window::{channel_sums, flag, WindowScan};
 
 pub const LENGTH: usize = 8_706;
 
@@ -39,17 +39,13 @@ pub fn summary(scenes: &[Scene]) -> Summary {
     summary
 }
 
-/// The product of the roll's last record.
-pub fn product(table: &Table, roll: &[ScanRecord]) -> Vec<u8> {
-    let current = roll
-        .last()
-        .expect("a product is made for an accepted record");
-    let window = window(table, roll);
+/// The product of the current record, which is in the window.
+pub fn product(table: &Table, current: &ScanRecord, window: &[WindowScan]) -> Vec<u8> {
     let mut flags = Vec::new();
     let mut scene_bytes = Vec::new();
     let mut summary_bytes = Vec::new();
     for channel in 0..CHANNELS {
-        let sums = channel_sums(table, &window, channel);
+        let sums = channel_sums(table, window, channel);
         let flag = flag(table, channel, &sums);
         let scenes: Vec<Scene> = current
             .earth_counts(channel)
@@ -112,10 +108,12 @@ mod tests {
     use crate::generator::tables::TableValues;
     use crate::second::bytes::{layout_is_right, layout_length};
     use crate::second::table::open;
+    use crate::second::window::window;
 
     fn bench_product(record: &RecordValues) -> Vec<u8> {
         let table = open(&TableValues::bench().encode()).unwrap();
-        product(&table, &[ScanRecord::read(&record.encode()).unwrap()])
+        let record = ScanRecord::read(&record.encode()).unwrap();
+        product(&table, &record, &window(&table, &[record.clone()]))
     }
 
     #[test]

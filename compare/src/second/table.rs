@@ -87,6 +87,8 @@ impl Channel {
 /// An accepted table.
 #[derive(Clone, Debug)]
 pub struct Table {
+    /// As it was opened.
+    pub bytes: Vec<u8>,
     /// w0..w7.
     pub count_weights: [i128; AGES],
     /// v0..v7.
@@ -209,6 +211,7 @@ fn read(bytes: &[u8]) -> Table {
         })
         .collect();
     Table {
+        bytes: bytes.to_vec(),
         count_weights: weights_at(0),
         thermometer_weights: weights_at(8),
         thermometer_percentage: general[16] as i128,

@@ -1,0 +1,319 @@
+//! The state, 2,660 bytes: a calibrator as bytes, and the C functions that take one.
+
+use super::bytes::{layout_is_right, u32_at, value};
+use super::calibrator::Calibrator;
+use super::table::{open, AGES, CHANNELS, THERMOMETERS};
+use super::thermometer::{inside, HIGHEST_T, KELVIN_OF_ZERO_CELSIUS, LOWEST_T};
+use super::window::{KeptScan, Start};
+
+pub const LENGTH: usize = 2_660;
+
+pub const LAYOUT: [(u8, usize); 6] = [
+    (0x30, 8),
+    (0x31, 741),
+    (0x32, 5),
+    (0x33, 704),
+    (0x34, 704),
+    (0x35, 480),
+];
+
+/// `SNDR` in ASCII.
+pub const MAGIC: u32 = 0x534e_4452;
+
+pub const VERSION: u32 = 1;
+
+/// The answer where bytes are no state, or where a state has no room.
+pub const NO_STATE: u8 = 254;
+
+/// Scan values, ends included: 12 times a mean count.
+const SCAN_VALUE_RANGE: (i128, i128) = (0, 786_420);
+
+/// Ends included.
+const KELVIN_RANGE: (i128, i128) = (
+    LOWEST_T + KELVIN_OF_ZERO_CELSIUS,
+    HIGHEST_T + KELVIN_OF_ZERO_CELSIUS,
+);
+
+/// A side as a state has it: 0 where it is bad, else one more than the scan value.
+fn side_number(scan_value: &Option<i128>) -> u32 {
+    match scan_value {
+        Some(a) => (a + 1) as u32,
+        None => 0,
+    }
+}
+
+/// A thermometer as a state has it: T, or 0 where it was not accepted.
+fn thermometer_number(temperature: &Option<i128>) -> u32 {
+    temperature.unwrap_or(0) as u32
+}
+
+/// What a state keeps of the scan of each age, from 0 to 7.
+fn scans_by_age(calibrator: &Calibrator) -> Vec<KeptScan> {
+    let mut scans = vec![KeptScan::nothing(); AGES];
+    for scan in calibrator.window() {
+        scans[scan.age] = scan.kept;
+    }
+    scans
+}
+
+/// The state of a calibrator.
+pub fn write(calibrator: &Calibrator) -> Vec<u8> {
+    let mut front = MAGIC.to_be_bytes().to_vec();
+    front.extend(VERSION.to_be_bytes());
+    let mut last = vec![u8::from(calibrator.last().is_some())];
+    last.extend(calibrator.last().unwrap_or(0).to_be_bytes());
+    let (mut warm, mut cold, mut thermometers) = (Vec::new(), Vec::new(), Vec::new());
+    for scan in scans_by_age(calibrator) {
+        for scan_value in &scan.warm {
+            warm.extend(side_number(scan_value).to_be_bytes());
+        }
+        for scan_value in &scan.cold {
+            cold.extend(side_number(scan_value).to_be_bytes());
+        }
+        for temperature in &scan.thermometers {
+            thermometers.extend(thermometer_number(temperature).to_be_bytes());
+        }
+    }
+    let table = calibrator.table().bytes.clone();
+    let mut bytes = Vec::new();
+    for (index, value) in [front, table, last, warm, cold, thermometers]
+        .into_iter()
+        .enumerate()
+    {
+        let (tag, length) = LAYOUT[index];
+        assert_eq!(value.len(), length);
+        bytes.push(tag);
+        bytes.extend((length as u16).to_be_bytes());
+        bytes.extend(value);
+    }
+    bytes
+}
+
+/// The sides of one age, or None where a value is out of its range.
+fn read_sides(field: &[u8], age: usize) -> Option<Vec<Option<i128>>> {
+    let mut sides = Vec::new();
+    for channel in 0..CHANNELS {
+        let number = u32_at(field, 4 * (CHANNELS * age + channel)) as i128;
+        if number == 0 {
+            sides.push(None);
+        } else if inside(number - 1, SCAN_VALUE_RANGE) {
+            sides.push(Some(number - 1));
+        } else {
+            return None;
+        }
+    }
+    Some(sides)
+}
+
+/// The thermometers of one age, or None where a value is out of its range.
+fn read_thermometers(field: &[u8], age: usize) -> Option<Vec<Option<i128>>> {
+    let mut thermometers = Vec::new();
+    for index in 0..THERMOMETERS {
+        let number = u32_at(field, 4 * (THERMOMETERS * age + index)) as i128;
+        if number == 0 {
+            thermometers.push(None);
+        } else if inside(number, KELVIN_RANGE) {
+            thermometers.push(Some(number));
+        } else {
+            return None;
+        }
+    }
+    Some(thermometers)
+}
+
+/// The calibrator of a state, or None where the bytes are no state. Bytes behind the state are not
+/// looked at. The numbers are those of the tests in section 13.
+pub fn read(bytes: &[u8]) -> Option<Calibrator> {
+    // 1.
+    if bytes.len() < LENGTH {
+        return None;
+    }
+    let bytes = &bytes[..LENGTH];
+    // 2.
+    if !layout_is_right(bytes, &LAYOUT) {
+        return None;
+    }
+    // 3.
+    let front = value(bytes, &LAYOUT, 0);
+    if u32_at(front, 0) != MAGIC || u32_at(front, 4) != VERSION {
+        return None;
+    }
+    // 4.
+    let table = open(value(bytes, &LAYOUT, 1)).ok()?;
+    // 5 and 6.
+    let number = u32_at(value(bytes, &LAYOUT, 2), 1);
+    let last = match (value(bytes, &LAYOUT, 2)[0], number) {
+        (0, 0) => None,
+        (1, number) => Some(number),
+        _ => return None,
+    };
+    let mut scans = Vec::new();
+    for age in 0..AGES {
+        // 7 and 8.
+        let kept = KeptScan {
+            warm: read_sides(value(bytes, &LAYOUT, 3), age)?,
+            cold: read_sides(value(bytes, &LAYOUT, 4), age)?,
+            thermometers: read_thermometers(value(bytes, &LAYOUT, 5), age)?,
+        };
+        // 9. The scan of an age has the last accepted number less the age, if that is a number.
+        match last.and_then(|last| last.checked_sub(age as u32)) {
+            Some(number) => scans.push((number, kept)),
+            None if kept == KeptScan::nothing() => {}
+            None => return None,
+        }
+    }
+    Some(Calibrator::since(table, Start { last, scans }))
+}
+
+/// The C function sounder_state_size.
+pub fn state_size() -> usize {
+    LENGTH
+}
+
+/// The C function sounder_fresh: 1 to 3 of the table, then 254 without room, else 0. Only 0 writes.
+pub fn fresh(table: &[u8], state: &mut [u8]) -> u8 {
+    let table = match open(table) {
+        Ok(table) => table,
+        Err(number) => return number,
+    };
+    if state.len() < LENGTH {
+        return NO_STATE;
+    }
+    state[..LENGTH].copy_from_slice(&write(&Calibrator::fresh(table)));
+    0
+}
+
+/// The C function sounder_feed: 254 where there is no state, then 4 to 7, else 0. Only 0 writes.
+pub fn feed(state: &mut [u8], record: &[u8], buffer: &mut [u8]) -> u8 {
+    let Some(calibrator) = read(state) else {
+        return NO_STATE;
+    };
+    let fed = calibrator.feed(record, buffer);
+    match fed.answer {
+        Err(number) => number,
+        Ok(()) => {
+            state[..LENGTH].copy_from_slice(&write(&fed.calibrator));
+            0
+        }
+    }
+}
+
+#[cfg(test)]
+mod tests {
+    use super::*;
+    use crate::generator::records::RecordValues;
+    use crate::generator::tables::TableValues;
+    use crate::second::bytes::layout_length;
+    use crate::second::product;
+
+    fn fresh_bench() -> Vec<u8> {
+        let mut state = vec![9; LENGTH];
+        assert_eq!(fresh(&TableValues::bench().encode(), &mut state), 0);
+        state
+    }
+
+    fn numbered(number: u32) -> Vec<u8> {
+        let record = RecordValues {
+            number,
+            ..RecordValues::bench()
+        };
+        record.encode()
+    }
+
+    fn fed(state: &mut [u8], number: u32) -> u8 {
+        feed(state, &numbered(number), &mut vec![0; product::LENGTH])
+    }
+
+    /// The u32 at each age of a field whose ages begin at `first` and are `step` bytes apart.
+    fn by_age(state: &[u8], first: usize, step: usize) -> Vec<u32> {
+        (0..8)
+            .map(|age| u32_at(state, first + step * age))
+            .collect()
+    }
+
+    #[test]
+    fn a_state_has_2_660_bytes_in_six_fields() {
+        assert_eq!(layout_length(&LAYOUT), LENGTH);
+        assert_eq!(state_size(), LENGTH);
+        let state = fresh_bench();
+        assert!(layout_is_right(&state, &LAYOUT));
+        assert_eq!(state[..11], *b"\x30\0\x08SNDR\0\0\0\x01");
+        assert_eq!(state[11..14], [0x31, 0x02, 0xe5]);
+        assert_eq!(state[14..755], TableValues::bench().encode());
+        assert_eq!(state[755..758], [0x32, 0, 5]);
+        assert_eq!(state[758..763], [0; 5]);
+        assert_eq!(state[763..766], [0x33, 0x02, 0xc0]);
+        assert_eq!(state[766..1_470], [0; 704]);
+        assert_eq!(state[1_470..1_473], [0x34, 0x02, 0xc0]);
+        assert_eq!(state[1_473..2_177], [0; 704]);
+        assert_eq!(state[2_177..2_180], [0x35, 0x01, 0xe0]);
+        assert_eq!(state[2_180..], [0; 480]);
+    }
+
+    #[test]
+    fn the_state_after_the_bench_scan_is_that_of_the_worked_example() {
+        let mut state = fresh_bench();
+        assert_eq!(fed(&mut state, 7), 0);
+        let mut expected = fresh_bench();
+        expected[758..763].copy_from_slice(&[1, 0, 0, 0, 7]);
+        expected[766..854].copy_from_slice(&[0, 3, 0xa9, 0x81].repeat(22));
+        expected[1_473..1_561].copy_from_slice(&[0, 1, 0xd4, 0xc1].repeat(22));
+        expected[2_180..2_240].copy_from_slice(&[0, 0x11, 0x12, 0x66].repeat(15));
+        assert_eq!(state, expected);
+    }
+
+    #[test]
+    fn ages_are_counted_from_the_last_accepted_number() {
+        let mut state = fresh_bench();
+        let (warm, cold, kelvin) = (240_001, 120_001, 1_118_822);
+        for number in [5, 6, 9] {
+            assert_eq!(fed(&mut state, number), 0);
+        }
+        let ages = |present: [u32; 8], one: u32| present.map(|present| present * one).to_vec();
+        let present = [1, 0, 0, 1, 1, 0, 0, 0];
+        assert_eq!(by_age(&state, 766 + 84, 88), ages(present, warm));
+        assert_eq!(by_age(&state, 1_473, 88), ages(present, cold));
+        assert_eq!(by_age(&state, 2_180 + 56, 60), ages(present, kelvin));
+        assert_eq!(fed(&mut state, 13), 0);
+        let present = [1, 0, 0, 0, 1, 0, 0, 1];
+        assert_eq!(by_age(&state, 766 + 84, 88), ages(present, warm));
+        assert_eq!(fed(&mut state, u32::MAX), 0);
+        let present = [1, 0, 0, 0, 0, 0, 0, 0];
+        assert_eq!(by_age(&state, 766, 88), ages(present, warm));
+        assert_eq!(fed(&mut state, u32::MAX), 6);
+    }
+
+    #[test]
+    fn a_calibrator_that_was_read_is_written_the_same() {
+        let mut state = fresh_bench();
+        assert_eq!(write(&read(&state).unwrap()), state);
+        for number in [0, 1, 3, 12] {
+            assert_eq!(fed(&mut state, number), 0);
+            assert_eq!(write(&read(&state).unwrap()), state);
+        }
+    }
+
+    #[test]
+    fn only_an_answer_of_0_writes() {
+        let table = TableValues::bench().encode();
+        let mut short = vec![9; LENGTH - 1];
+        assert_eq!(fresh(&table, &mut short), 254);
+        assert_eq!(fresh(&table[1..], &mut short), 1);
+        assert_eq!(short, vec![9; LENGTH - 1]);
+        let mut longer = vec![9; LENGTH + 1];
+        assert_eq!(fresh(&table, &mut longer), 0);
+        assert_eq!((&longer[..LENGTH], longer[LENGTH]), (&fresh_bench()[..], 9));
+
+        // 254 comes before 4 and 7.
+        let mut buffer = vec![8; product::LENGTH + 1];
+        assert_eq!(feed(&mut short, &[], &mut []), 254);
+        assert_eq!(feed(&mut longer, &[], &mut buffer), 4);
+        let few = product::LENGTH - 1;
+        assert_eq!(feed(&mut longer, &numbered(7), &mut buffer[..few]), 7);
+        assert_eq!(buffer, vec![8; product::LENGTH + 1]);
+        assert_eq!((&longer[..LENGTH], longer[LENGTH]), (&fresh_bench()[..], 9));
+        assert_eq!(feed(&mut longer, &numbered(7), &mut buffer), 0);
+        assert_eq!((buffer[product::LENGTH], longer[LENGTH]), (8, 9));
+        assert_eq!(longer[758..763], [1, 0, 0, 0, 7]);
+    }
+}
