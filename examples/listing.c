@@ -1,5 +1,6 @@
-/* Feeds a file of scan records to the calibrator in one call and prints a line for each, as the listing
- * program does: `listing table.bin scans.bin`. */
+/* Feeds a file of scan records to the calibrator in one call and prints a line for each: `listing table.bin
+ * scans.bin`. The line of an accepted record is that of the listing program; that of a refused one names the
+ * record, counted from 0, and where it begins in the file: `record 1 offset 4629 refused 6`. */
 #include <stdio.h>
 #include <stdlib.h>
 
@@ -80,7 +81,7 @@ int main(int argc, char **argv)
         if (answers[i] == 0) {
             print_product(buffers + i * SOUNDER_PRODUCT_BYTES);
         } else {
-            printf("refused %u\n", answers[i]);
+            printf("record %zu offset %zu refused %u\n", i, i * SOUNDER_RECORD_BYTES, answers[i]);
         }
     }
     free(table);

@@ -1,0 +1,102 @@
+! Every function of the module sounder, also with what it refuses, and what each answers:
+!
+!     functions table.bin scans.bin
+!
+! scans.bin has whole records, and perhaps a shorter rest; the first record is accepted.
+program functions
+    use, intrinsic :: iso_fortran_env, only: int32
+    use sounder
+    implicit none
+
+    ! Elements of a product: its number, and the first of its scenes and of its summaries.
+    integer, parameter :: number_at = 4, scenes_at = 36, summaries_at = 8487
+    integer(sounder_byte), allocatable :: table(:), records(:), products(:)
+    integer(sounder_byte) :: state(sounder_state_bytes), product(sounder_product_bytes)
+    integer(int32), allocatable :: record_lengths(:), product_lengths(:)
+    integer, allocatable :: answers(:)
+    integer :: answer, again, count, i, left
+    integer(int32) :: t
+
+    if (command_argument_count() /= 2) error stop 'usage: functions table.bin scans.bin'
+    call read_file(1, table)
+    call read_file(2, records)
+    if (size(records) < sounder_record_bytes) error stop 'a whole record is needed'
+
+    print '(a,i0)', 'version ', sounder_version()
+    print '(a,i0)', 'state size ', sounder_state_size()
+    print '(a,2(1x,i0))', 'open', sounder_open(table), sounder_open(table(2:))
+
+    ! The coefficients of the bench table, and counts that are answered with 0, 10, 9 and 8.
+    t = 0
+    answer = sounder_thermometer(2000000, 2000000, 3850000, 1500000, 0, 40000, 0, 40158, t)
+    print '(a,2(1x,i0))', 'thermometer', answer, t
+    answer = sounder_thermometer(2000000, 2000000, 3850000, 1500000, 0, 40000, 0, 65535, t)
+    print '(a,2(1x,i0))', 'thermometer', answer, t
+    answer = sounder_thermometer(2000000, 2000000, 3850000, 1500000, 0, 40000, 40000, 40158, t)
+    print '(a,2(1x,i0))', 'thermometer', answer, t
+    answer = sounder_thermometer(-1, 2000000, 3850000, 1500000, 0, 40000, 0, 40158, t)
+    print '(a,2(1x,i0))', 'thermometer', answer, t
+
+    ! Scan by scan: a state that is too short is sounder_no_state, and a scan is accepted once.
+    answer = sounder_fresh(table, state(2:))
+    again = sounder_fresh(table, state)
+    print '(a,2(1x,i0))', 'fresh', answer, again
+    answer = sounder_feed(state(2:), records(:sounder_record_bytes), product)
+    print '(a,1x,i0)', 'feed', answer
+    answer = sounder_feed(state, records(:sounder_record_bytes), product(2:))
+    print '(a,1x,i0)', 'feed', answer
+    answer = sounder_feed(state, records(:sounder_record_bytes), product)
+    again = sounder_feed(state, records(:sounder_record_bytes), product)
+    print '(a,2(1x,i0))', 'feed', answer, again
+    call print_product(product)
+
+    ! All records in one call; a last feed has no record, and its answer is sounder_not_fed.
+    count = (size(records) + sounder_record_bytes - 1) / sounder_record_bytes
+    allocate (record_lengths(count), product_lengths(count), answers(count + 1))
+    allocate (products(count * sounder_product_bytes))
+    do i = 1, count
+        left = size(records) - (i - 1) * sounder_record_bytes
+        record_lengths(i) = min(left, sounder_record_bytes)
+        product_lengths(i) = sounder_product_bytes
+    end do
+    answer = sounder_feed_all(table, records, record_lengths, products, product_lengths, answers)
+    print '(a,*(1x,i0))', 'feed_all', answer, answers
+    do i = 1, count
+        if (answers(i) == 0) then
+            call print_product(products((i - 1) * sounder_product_bytes + 1:i * sounder_product_bytes))
+        end if
+    end do
+    deallocate (table, records, products, record_lengths, product_lengths, answers)
+
+contains
+
+    ! The number of a product, how many of its scenes are delivered, and the first and the last scene in kelvin.
+    subroutine print_product(bytes)
+        integer(sounder_byte), intent(in) :: bytes(:)
+        integer :: channel, at, delivered
+        delivered = 0
+        do channel = 1, 22
+            at = summaries_at + 10 * (channel - 1)
+            delivered = delivered + int(sounder_number(bytes(at:at + 1)))
+        end do
+        at = scenes_at + 384 * 21 + 4 * 95
+        print '(a,i0,a,i0,2(a,f0.4))', &
+            'scan ', sounder_number(bytes(number_at:number_at + 3)), ' delivered ', delivered, &
+            ' first ', sounder_kelvin(bytes(scenes_at:scenes_at + 3)), ' last ', sounder_kelvin(bytes(at:at + 3))
+    end subroutine print_product
+
+    ! The bytes of the file that an argument names.
+    subroutine read_file(number, bytes)
+        integer, intent(in) :: number
+        integer(sounder_byte), allocatable, intent(out) :: bytes(:)
+        character(4096) :: name
+        integer :: file, length
+        call get_command_argument(number, name)
+        open (newunit=file, file=name, access='stream', form='unformatted', status='old', action='read')
+        inquire (unit=file, size=length)
+        allocate (bytes(length))
+        read (file) bytes
+        close (file)
+    end subroutine read_file
+
+end program functions
