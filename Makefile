@@ -1,5 +1,5 @@
-# README.md says what each target prints.
-.PHONY: run test lib bench
+# README.md says what each target prints. Targets may run side by side: tools/build lets one build at a time write target/.
+.PHONY: run test lib bench install clean
 
 run:
 	@tools/run
@@ -12,3 +12,10 @@ lib:
 
 bench:
 	@tools/bench
+
+# PREFIX and DESTDIR of the command line reach the script through the environment.
+install:
+	@tools/install
+
+clean:
+	@rm -rf target compare/target
