@@ -1,6 +1,6 @@
 ! Every function of the module sounder, also with what it refuses, and what each answers:
 !
-!     functions table.bin scans.bin
+!     functions table.bin bias.bin scans.bin
 !
 ! scans.bin has whole records, and perhaps a shorter rest; the first record is accepted.
 program functions
@@ -10,21 +10,23 @@ program functions
 
     ! Elements of a product: its number, and the first of its scenes and of its summaries.
     integer, parameter :: number_at = 4, scenes_at = 36, summaries_at = 8487
-    integer(sounder_byte), allocatable :: table(:), records(:), products(:)
+    integer(sounder_byte), allocatable :: table(:), bias(:), records(:), products(:)
     integer(sounder_byte) :: state(sounder_state_bytes), product(sounder_product_bytes)
     integer(int32), allocatable :: record_lengths(:), product_lengths(:)
     integer, allocatable :: answers(:)
-    integer :: answer, again, count, i, left
+    integer :: answer, again, refused, count, i, left
     integer(int32) :: t
 
-    if (command_argument_count() /= 2) error stop 'usage: functions table.bin scans.bin'
+    if (command_argument_count() /= 3) error stop 'usage: functions table.bin bias.bin scans.bin'
     call read_file(1, table)
-    call read_file(2, records)
+    call read_file(2, bias)
+    call read_file(3, records)
     if (size(records) < sounder_record_bytes) error stop 'a whole record is needed'
 
     print '(a,i0)', 'version ', sounder_version()
     print '(a,i0)', 'state size ', sounder_state_size()
     print '(a,2(1x,i0))', 'open', sounder_open(table), sounder_open(table(2:))
+    print '(a,2(1x,i0))', 'open_bias', sounder_open_bias(bias), sounder_open_bias(bias(2:))
 
     ! The coefficients of the bench table, and counts that are answered with 0, 10, 9 and 8.
     t = 0
@@ -37,10 +39,12 @@ program functions
     answer = sounder_thermometer(-1, 2000000, 3850000, 1500000, 0, 40000, 0, 40158, t)
     print '(a,2(1x,i0))', 'thermometer', answer, t
 
-    ! Scan by scan: a state that is too short is sounder_no_state, and a scan is accepted once.
-    answer = sounder_fresh(table, state(2:))
-    again = sounder_fresh(table, state)
-    print '(a,2(1x,i0))', 'fresh', answer, again
+    ! Scan by scan: a refused bias file, then a state that is too short, which is sounder_no_state; and a scan is
+    ! accepted once.
+    refused = sounder_fresh(table, bias(2:), state(2:))
+    answer = sounder_fresh(table, bias, state(2:))
+    again = sounder_fresh(table, bias, state)
+    print '(a,3(1x,i0))', 'fresh', refused, answer, again
     answer = sounder_feed(state(2:), records(:sounder_record_bytes), product)
     print '(a,1x,i0)', 'feed', answer
     answer = sounder_feed(state, records(:sounder_record_bytes), product(2:))
@@ -50,7 +54,8 @@ program functions
     print '(a,2(1x,i0))', 'feed', answer, again
     call print_product(product)
 
-    ! All records in one call; a last feed has no record, and its answer is sounder_not_fed.
+    ! All records in one call; a last feed has no record, and its answer is sounder_not_fed. A refused bias file
+    ! feeds none.
     count = (size(records) + sounder_record_bytes - 1) / sounder_record_bytes
     allocate (record_lengths(count), product_lengths(count), answers(count + 1))
     allocate (products(count * sounder_product_bytes))
@@ -59,14 +64,15 @@ program functions
         record_lengths(i) = min(left, sounder_record_bytes)
         product_lengths(i) = sounder_product_bytes
     end do
-    answer = sounder_feed_all(table, records, record_lengths, products, product_lengths, answers)
-    print '(a,*(1x,i0))', 'feed_all', answer, answers
+    refused = sounder_feed_all(table, bias(2:), records, record_lengths, products, product_lengths, answers)
+    answer = sounder_feed_all(table, bias, records, record_lengths, products, product_lengths, answers)
+    print '(a,*(1x,i0))', 'feed_all', refused, answer, answers
     do i = 1, count
         if (answers(i) == 0) then
             call print_product(products((i - 1) * sounder_product_bytes + 1:i * sounder_product_bytes))
         end if
     end do
-    deallocate (table, records, products, record_lengths, product_lengths, answers)
+    deallocate (table, bias, records, products, record_lengths, product_lengths, answers)
 
 contains
 

@@ -1,6 +1,7 @@
-/* Feeds a file of scan records to the calibrator in one call and prints a line for each: `listing table.bin
+/* Feeds a file of scan records to the calibrator in one call and prints a line for each: `listing table.bin bias.bin
  * scans.bin`. The line of an accepted record is that of the listing program; that of a refused one names the
- * record, counted from 0, and where it begins in the file: `record 1 offset 4629 refused 6`. */
+ * record, counted from 0, and where it begins in the file: `record 1 offset 4629 refused 6`. A refused table or bias
+ * file gives its line alone, with its name: `bias.bin refused 3`. */
 #include <stdio.h>
 #include <stdlib.h>
 
@@ -47,13 +48,14 @@ static void print_product(const uint8_t *product)
 
 int main(int argc, char **argv)
 {
-    if (argc != 3) {
-        fprintf(stderr, "usage: %s table.bin scans.bin\n", argv[0]);
+    if (argc != 4) {
+        fprintf(stderr, "usage: %s table.bin bias.bin scans.bin\n", argv[0]);
         return 2;
     }
-    size_t table_len, records_len;
+    size_t table_len, bias_len, records_len;
     uint8_t *table = contents(argv[1], &table_len);
-    uint8_t *records = contents(argv[2], &records_len);
+    uint8_t *bias = contents(argv[2], &bias_len);
+    uint8_t *records = contents(argv[3], &records_len);
 
     /* A shorter rest is a record too; it is refused with 4. */
     size_t count = (records_len + SOUNDER_RECORD_BYTES - 1) / SOUNDER_RECORD_BYTES;
@@ -71,10 +73,11 @@ int main(int argc, char **argv)
         buffer_lengths[i] = SOUNDER_PRODUCT_BYTES;
     }
 
-    uint8_t refused = sounder_feed_all(table, table_len, records, records_len, record_lengths, count, buffers,
-                                       count * SOUNDER_PRODUCT_BYTES, buffer_lengths, count, answers, count);
+    uint8_t refused = sounder_feed_all(table, table_len, bias, bias_len, records, records_len, record_lengths, count,
+                                       buffers, count * SOUNDER_PRODUCT_BYTES, buffer_lengths, count, answers, count);
     if (refused != 0) {
-        printf("refused %u\n", refused);
+        /* The table is opened first, so the refusal is the bias file's only where the table is accepted. */
+        printf("%s refused %u\n", sounder_open(table, table_len) != 0 ? argv[1] : argv[2], refused);
         return 1;
     }
     for (size_t i = 0; i < count; i++) {
@@ -85,6 +88,7 @@ int main(int argc, char **argv)
         }
     }
     free(table);
+    free(bias);
     free(records);
     free(record_lengths);
     free(buffer_lengths);

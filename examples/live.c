@@ -1,6 +1,6 @@
 /* A station's program: feeds scan records to the calibrator as they come, and goes on after a stop.
  *
- *     live table.bin state.bin [COUNT] <scans >>products
+ *     live table.bin bias.bin state.bin [COUNT] <scans >>products
  *
  * Records of 4,629 bytes come from standard input, however they arrive; a shorter rest is one record, which is
  * refused with 4. The product of an accepted record, 8,706 bytes, is written to standard output before the next
@@ -24,16 +24,16 @@
  *     refused with 6, which changes nothing. A scan that is not fed again is a lost scan to the calibrator;
  *   - keeps one of two products with the same number (4 bytes at 3); they have the same bytes.
  *
- * Another table. A state has its table in it, at 14, and keeps it. If table.bin has other bytes, the program
- * refuses to start: to go on would leave the new table unused, and to begin anew would empty the window, both
- * without a word. The station moves state.bin away and feeds the accepted records of the last seven numbers once
- * more in front, whose products it drops.
+ * Another table or bias file. A state has its table in it, at 14, and its bias file, at 2,663, and keeps both. If
+ * table.bin or bias.bin has other bytes, the program says which and refuses to start: to go on would leave the new
+ * file unused, and to begin anew would empty the window, both without a word. The station moves state.bin away and
+ * feeds the accepted records of the last seven numbers once more in front, whose products it drops.
  *
  * A state has no checksum: a station guards state.bin against damage. One state.bin serves one running program.
  *
- * The exit status is 0 when the input has ended or COUNT records were read; 1 where the table is refused,
- * state.bin is no state or has another table, or a file of products ends with a part of one; 2 where the
- * arguments are wrong or something cannot be read or written. */
+ * The exit status is 0 when the input has ended or COUNT records were read; 1 where the table or the bias file is
+ * refused, state.bin is no state or has another table or bias file, or a file of products ends with a part of one;
+ * 2 where the arguments are wrong or something cannot be read or written. */
 #define _POSIX_C_SOURCE 200809L
 
 #include <errno.h>
@@ -48,8 +48,8 @@
 
 #include "sounder.h"
 
-/* Where the table stands in a state. */
-enum { TABLE_AT = 14 };
+/* Where the table and the bias file stand in a state. */
+enum { TABLE_AT = 14, BIAS_AT = 2663 };
 
 /* Ends the program: something cannot be read or written. */
 static void failed(const char *name)
@@ -125,20 +125,41 @@ static void save(const char *name, const char *new_name, const uint8_t *state)
     }
 }
 
+/* The contents of a file that has to be there, of which no more than room bytes are read. */
+static size_t needed(const char *name, uint8_t *bytes, size_t room)
+{
+    long length = contents(name, bytes, room);
+    if (length < 0) {
+        failed(name);
+    }
+    return (size_t)length;
+}
+
+/* Ends the program where a state has another table or bias file than the file. */
+static void agrees(const char *state_name, const char *name, const char *what, const uint8_t *saved,
+                   const uint8_t *bytes, size_t count)
+{
+    if (memcmp(saved, bytes, count) != 0) {
+        fprintf(stderr, "%s: the state has another %s than %s; move it away to begin with a fresh one\n", state_name,
+                what, name);
+        exit(1);
+    }
+}
+
 /* Begins with a fresh state, or goes on from the one in the file. */
-static void begin(const char *table_name, const char *state_name, uint8_t *state)
+static void begin(const char *table_name, const char *bias_name, const char *state_name, uint8_t *state)
 {
     /* One byte more than is right, so that a longer file is seen. */
-    uint8_t table[SOUNDER_TABLE_BYTES + 1];
-    uint8_t saved[SOUNDER_STATE_BYTES + 1];
+    static uint8_t table[SOUNDER_TABLE_BYTES + 1], bias[SOUNDER_BIAS_BYTES + 1], saved[SOUNDER_STATE_BYTES + 1];
 
-    long table_length = contents(table_name, table, sizeof table);
-    if (table_length < 0) {
-        failed(table_name);
-    }
-    uint8_t refused = sounder_fresh(table, (size_t)table_length, state, SOUNDER_STATE_BYTES);
+    size_t table_length = needed(table_name, table, sizeof table);
+    size_t bias_length = needed(bias_name, bias, sizeof bias);
+    uint8_t refused = sounder_fresh(table, table_length, bias, bias_length, state, SOUNDER_STATE_BYTES);
     if (refused != 0) {
-        fprintf(stderr, "%s: the table is refused with %u\n", table_name, refused);
+        /* The table is opened first, so the refusal is the bias file's only where the table is accepted. */
+        int of_table = sounder_open(table, table_length) != 0;
+        fprintf(stderr, "%s: the %s is refused with %u\n", of_table ? table_name : bias_name,
+                of_table ? "table" : "bias file", refused);
         exit(1);
     }
 
@@ -151,11 +172,8 @@ static void begin(const char *table_name, const char *state_name, uint8_t *state
         fprintf(stderr, "%s: this is no state; move it away to begin with a fresh one\n", state_name);
         exit(1);
     }
-    if (memcmp(saved + TABLE_AT, table, SOUNDER_TABLE_BYTES) != 0) {
-        fprintf(stderr, "%s: the state has another table than %s; move it away to begin with a fresh one\n",
-                state_name, table_name);
-        exit(1);
-    }
+    agrees(state_name, table_name, "table", saved + TABLE_AT, table, SOUNDER_TABLE_BYTES);
+    agrees(state_name, bias_name, "bias file", saved + BIAS_AT, bias, SOUNDER_BIAS_BYTES);
     memcpy(state, saved, SOUNDER_STATE_BYTES);
 }
 
@@ -164,13 +182,13 @@ int main(int argc, char **argv)
     static uint8_t state[SOUNDER_STATE_BYTES], record[SOUNDER_RECORD_BYTES], product[SOUNDER_PRODUCT_BYTES];
     static char new_name[PATH_MAX];
 
-    int counted = argc == 4 && argv[3][0] != '\0' && argv[3][strspn(argv[3], "0123456789")] == '\0';
-    if (argc != 3 && !counted) {
-        fprintf(stderr, "usage: %s table.bin state.bin [COUNT] <scans >>products\n", argv[0]);
+    int counted = argc == 5 && argv[4][0] != '\0' && argv[4][strspn(argv[4], "0123456789")] == '\0';
+    if (argc != 4 && !counted) {
+        fprintf(stderr, "usage: %s table.bin bias.bin state.bin [COUNT] <scans >>products\n", argv[0]);
         return 2;
     }
-    unsigned long long count = counted ? strtoull(argv[3], NULL, 10) : ULLONG_MAX;
-    const char *state_name = argv[2];
+    unsigned long long count = counted ? strtoull(argv[4], NULL, 10) : ULLONG_MAX;
+    const char *state_name = argv[3];
     if (snprintf(new_name, sizeof new_name, "%s.new", state_name) >= (int)sizeof new_name) {
         errno = ENAMETOOLONG;
         failed(state_name);
@@ -190,7 +208,7 @@ int main(int argc, char **argv)
     /* A reader of the products that goes away is an error of write, with a message like every other. */
     signal(SIGPIPE, SIG_IGN);
 
-    begin(argv[1], state_name, state);
+    begin(argv[1], argv[2], state_name, state);
     /* Where states cannot be saved, that is told before the first product. */
     save(state_name, new_name, state);
 

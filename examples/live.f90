@@ -1,6 +1,6 @@
 ! Feeds a file of scan records scan by scan, and half way through goes on from a saved state:
 !
-!     live table.bin scans.bin state.bin products.bin
+!     live table.bin bias.bin scans.bin state.bin products.bin
 !
 ! The products of the accepted records are written to products.bin, and the line `record N offset B refused M`
 ! to standard error for each refused one: the Nth record, counted from 0, which begins at byte B. A shorter rest
@@ -15,38 +15,44 @@ program live
     implicit none
 
     integer(sounder_byte) :: first_half(sounder_state_bytes), second_half(sounder_state_bytes)
-    integer(sounder_byte), allocatable :: table(:)
+    integer(sounder_byte), allocatable :: table(:), bias(:)
     integer(int64) :: bytes, records, accepted
     integer :: answer, scans, products
 
-    if (command_argument_count() /= 4) error stop 'usage: live table.bin scans.bin state.bin products.bin'
+    if (command_argument_count() /= 5) error stop 'usage: live table.bin bias.bin scans.bin state.bin products.bin'
     if (sounder_state_size() /= sounder_state_bytes) error stop 'the library has states of another size'
 
-    call read_table(argument(1))
-    answer = sounder_fresh(table, first_half)
+    call read_file(argument(1), table)
+    call read_file(argument(2), bias)
+    answer = sounder_fresh(table, bias, first_half)
     if (answer /= 0) then
-        write (error_unit, '(a,i0)') 'the table is refused with ', answer
+        ! The table is opened first, so the refusal is the bias file's only where the table is accepted.
+        if (sounder_open(table) /= 0) then
+            write (error_unit, '(a,i0)') 'the table is refused with ', answer
+        else
+            write (error_unit, '(a,i0)') 'the bias file is refused with ', answer
+        end if
         error stop
     end if
-    ! The state has the table.
-    deallocate (table)
+    ! The state has both.
+    deallocate (table, bias)
 
-    open (newunit=scans, file=argument(2), access='stream', form='unformatted', status='old', action='read')
+    open (newunit=scans, file=argument(3), access='stream', form='unformatted', status='old', action='read')
     inquire (unit=scans, size=bytes)
     if (bytes < 0) error stop 'the scans are no file'
     records = (bytes + sounder_record_bytes - 1) / sounder_record_bytes
-    open (newunit=products, file=argument(4), access='stream', form='unformatted', status='replace', action='write')
+    open (newunit=products, file=argument(5), access='stream', form='unformatted', status='replace', action='write')
 
     accepted = 0
     call feed(first_half, 0_int64, records / 2 - 1)
-    call save_state(argument(3), first_half)
-    call read_state(argument(3), second_half)
+    call save_state(argument(4), first_half)
+    call read_state(argument(4), second_half)
     call feed(second_half, records / 2, records - 1)
-    call save_state(argument(3), second_half)
+    call save_state(argument(4), second_half)
 
     close (products)
     close (scans)
-    call check_length(argument(4), accepted * sounder_product_bytes)
+    call check_length(argument(5), accepted * sounder_product_bytes)
 
 contains
 
@@ -82,15 +88,16 @@ contains
         end do
     end subroutine feed
 
-    subroutine read_table(name)
+    subroutine read_file(name, content)
         character(*), intent(in) :: name
+        integer(sounder_byte), allocatable, intent(out) :: content(:)
         integer :: file, length
         open (newunit=file, file=name, access='stream', form='unformatted', status='old', action='read')
         inquire (unit=file, size=length)
-        allocate (table(length))
-        read (file) table
+        allocate (content(length))
+        read (file) content
         close (file)
-    end subroutine read_table
+    end subroutine read_file
 
     subroutine save_state(name, state)
         character(*), intent(in) :: name

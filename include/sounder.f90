@@ -16,7 +16,7 @@ module sounder
     implicit none
     private
 
-    public :: sounder_open, sounder_thermometer, sounder_feed_all
+    public :: sounder_open, sounder_open_bias, sounder_thermometer, sounder_feed_all
     public :: sounder_state_size, sounder_fresh, sounder_feed, sounder_version
     public :: sounder_number, sounder_kelvin
 
@@ -24,13 +24,14 @@ module sounder
     integer, parameter, public :: sounder_byte = c_int8_t
 
     ! The version of this module: 10000 * major + 100 * minor + patch.
-    integer, parameter, public :: sounder_version_number = 10000
+    integer, parameter, public :: sounder_version_number = 20000
 
     integer, parameter, public :: sounder_table_bytes = 741
+    integer, parameter, public :: sounder_bias_bytes = 8451
     integer, parameter, public :: sounder_record_bytes = 4629
     integer, parameter, public :: sounder_product_bytes = 8706
     ! What sounder_state_size gives.
-    integer, parameter, public :: sounder_state_bytes = 2660
+    integer, parameter, public :: sounder_state_bytes = 11114
     ! The answer where the bytes are no state, or where a state has no room.
     integer, parameter, public :: sounder_no_state = 254
     ! In answers of sounder_feed_all: a feed that was not fed, since a length or bytes were missing.
@@ -60,6 +61,13 @@ module sounder
             integer(c_int8_t) :: answer
         end function c_open
 
+        function c_open_bias(bias, bias_len) bind(c, name='sounder_open_bias') result(answer)
+            import :: c_int8_t, c_size_t
+            integer(c_int8_t), intent(in) :: bias(*)
+            integer(c_size_t), value :: bias_len
+            integer(c_int8_t) :: answer
+        end function c_open_bias
+
         function c_thermometer(r_pam, r0, alpha, delta, beta, pam, offset, count, t) &
                 bind(c, name='sounder_thermometer') result(answer)
             import :: c_int8_t, c_int16_t, c_int32_t
@@ -69,23 +77,24 @@ module sounder
             integer(c_int8_t) :: answer
         end function c_thermometer
 
-        function c_feed_all(table, table_len, records, records_len, record_lengths, record_count, &
+        function c_feed_all(table, table_len, bias, bias_len, records, records_len, record_lengths, record_count, &
                 buffers, buffers_len, buffer_lengths, buffer_count, answers, answer_count) &
                 bind(c, name='sounder_feed_all') result(answer)
             import :: c_int8_t, c_int32_t, c_size_t
-            integer(c_int8_t), intent(in) :: table(*), records(*)
+            integer(c_int8_t), intent(in) :: table(*), bias(*), records(*)
             integer(c_int32_t), intent(in) :: record_lengths(*), buffer_lengths(*)
             integer(c_int8_t), intent(inout) :: buffers(*), answers(*)
-            integer(c_size_t), value :: table_len, records_len, record_count
+            integer(c_size_t), value :: table_len, bias_len, records_len, record_count
             integer(c_size_t), value :: buffers_len, buffer_count, answer_count
             integer(c_int8_t) :: answer
         end function c_feed_all
 
-        function c_fresh(table, table_len, state, state_len) bind(c, name='sounder_fresh') result(answer)
+        function c_fresh(table, table_len, bias, bias_len, state, state_len) &
+                bind(c, name='sounder_fresh') result(answer)
             import :: c_int8_t, c_size_t
-            integer(c_int8_t), intent(in) :: table(*)
+            integer(c_int8_t), intent(in) :: table(*), bias(*)
             integer(c_int8_t), intent(inout) :: state(*)
-            integer(c_size_t), value :: table_len, state_len
+            integer(c_size_t), value :: table_len, bias_len, state_len
             integer(c_int8_t) :: answer
         end function c_fresh
 
@@ -109,6 +118,15 @@ contains
         answer = unsigned(c_open(table, size(table, kind=c_size_t)))
     end function sounder_open
 
+    ! Opens a bias file, which has the scan bias of each channel and position: 0 if it is accepted, or 1 (its
+    ! length), 2 (the tag or length in it), 3 (a c0 outside its range). A file of zeros behind the first three bytes
+    ! changes no temperature.
+    function sounder_open_bias(bias) result(answer)
+        integer(c_int8_t), intent(in), contiguous :: bias(:)
+        integer :: answer
+        answer = unsigned(c_open_bias(bias, size(bias, kind=c_size_t)))
+    end function sounder_open_bias
+
     ! One thermometer, from the table's values and the record's counts: 0 and, in t, the temperature in units of
     ! 1/4096 degree Celsius; or 8 (R_PAM or a coefficient outside its range), 9 (pam not above offset), 10 (no
     ! temperature for the count), and t stays as it was. The three counts are from 0 to 65,535; of another number
@@ -121,32 +139,35 @@ contains
             low_bits(count), t))
     end function sounder_thermometer
 
-    ! Opens the table and feeds a fresh calibrator a list of records: 0, or the table's refusal (1 to 3), which
-    ! writes nothing. Feed i takes the next record_lengths(i) bytes of records and the next buffer_lengths(i)
-    ! bytes of buffers; answers(i) is 0, and the product stands at the front of its buffer, or 4 to 7, or
-    ! sounder_not_fed where the lengths or the bytes have ended.
-    function sounder_feed_all(table, records, record_lengths, buffers, buffer_lengths, answers) result(answer)
-        integer(c_int8_t), intent(in), contiguous :: table(:), records(:)
+    ! Opens the table and the bias file and feeds a fresh calibrator a list of records: 0, or the table's refusal
+    ! (1 to 3), then the bias file's (1 to 3), which write nothing. sounder_open tells whether it is the table's.
+    ! Feed i takes the next record_lengths(i) bytes of records and the next buffer_lengths(i) bytes of buffers;
+    ! answers(i) is 0, and the product stands at the front of its buffer, or 4 to 7, or sounder_not_fed where the
+    ! lengths or the bytes have ended.
+    function sounder_feed_all(table, bias, records, record_lengths, buffers, buffer_lengths, answers) result(answer)
+        integer(c_int8_t), intent(in), contiguous :: table(:), bias(:), records(:)
         integer(c_int32_t), intent(in), contiguous :: record_lengths(:), buffer_lengths(:)
         integer(c_int8_t), intent(inout), contiguous :: buffers(:)
         integer, intent(inout) :: answers(:)
         integer :: answer
         integer(c_int8_t), allocatable :: bytes(:)
         allocate (bytes(size(answers)))
-        answer = unsigned(c_feed_all(table, size(table, kind=c_size_t), records, size(records, kind=c_size_t), &
-            record_lengths, size(record_lengths, kind=c_size_t), buffers, size(buffers, kind=c_size_t), &
-            buffer_lengths, size(buffer_lengths, kind=c_size_t), bytes, size(bytes, kind=c_size_t)))
+        answer = unsigned(c_feed_all(table, size(table, kind=c_size_t), bias, size(bias, kind=c_size_t), &
+            records, size(records, kind=c_size_t), record_lengths, size(record_lengths, kind=c_size_t), &
+            buffers, size(buffers, kind=c_size_t), buffer_lengths, size(buffer_lengths, kind=c_size_t), &
+            bytes, size(bytes, kind=c_size_t)))
         if (answer == 0) answers = unsigned(bytes)
     end function sounder_feed_all
 
-    ! Opens the table and writes the state of a fresh calibrator: 0; or the table's refusal (1 to 3), then
-    ! sounder_no_state where state has fewer than sounder_state_bytes elements. A refusal writes nothing. The
-    ! table is in the state, and is not needed again.
-    function sounder_fresh(table, state) result(answer)
-        integer(c_int8_t), intent(in), contiguous :: table(:)
+    ! Opens the table and the bias file and writes the state of a fresh calibrator: 0; or the table's refusal
+    ! (1 to 3), then the bias file's (1 to 3), then sounder_no_state where state has fewer than sounder_state_bytes
+    ! elements. A refusal writes nothing. The table and the bias file are in the state, and are not needed again.
+    function sounder_fresh(table, bias, state) result(answer)
+        integer(c_int8_t), intent(in), contiguous :: table(:), bias(:)
         integer(c_int8_t), intent(inout), contiguous :: state(:)
         integer :: answer
-        answer = unsigned(c_fresh(table, size(table, kind=c_size_t), state, size(state, kind=c_size_t)))
+        answer = unsigned(c_fresh(table, size(table, kind=c_size_t), bias, size(bias, kind=c_size_t), &
+            state, size(state, kind=c_size_t)))
     end function sounder_fresh
 
     ! Feeds one record to the calibrator of a state: 0, and the product stands at the front of buffer and the

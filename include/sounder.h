@@ -2,9 +2,9 @@
  * temperatures. Link with libstation.a or libstation.so, which `make lib` builds and `make install` installs
  * (x86-64 Linux).
  *
- * docs/RULES.md has the formats of tables, scan records, products and states and all rules. Every
+ * docs/RULES.md has the formats of tables, bias files, scan records, products and states and all rules. Every
  * function answers every input, keeps nothing between calls and allocates nothing, so that any number of
- * threads may call it, each with buffers of its own; a call takes less than 24 KiB of stack. No function writes
+ * threads may call it, each with buffers of its own; a call takes less than 128 KiB of stack. No function writes
  * past what is named here.
  *
  * A pointer and the count behind it are one argument; the pointer may be null where the count is 0. What is
@@ -21,15 +21,16 @@ extern "C" {
 #endif
 
 /* The version of this header, as text and as the number 10000 * major + 100 * minor + patch. */
-#define SOUNDER_VERSION "1.0.0"
-#define SOUNDER_VERSION_NUMBER 10000
+#define SOUNDER_VERSION "2.0.0"
+#define SOUNDER_VERSION_NUMBER 20000
 
 enum {
     SOUNDER_TABLE_BYTES = 741,
+    SOUNDER_BIAS_BYTES = 8451,
     SOUNDER_RECORD_BYTES = 4629,
     SOUNDER_PRODUCT_BYTES = 8706,
     /* What sounder_state_size gives. */
-    SOUNDER_STATE_BYTES = 2660,
+    SOUNDER_STATE_BYTES = 11114,
     /* The answer where the bytes are no state, or where a state has no room. */
     SOUNDER_NO_STATE = 254,
     /* In answers: a feed that was not fed, since a length or bytes were missing. */
@@ -44,6 +45,11 @@ uint32_t sounder_version(void);
  * outside its range). */
 uint8_t sounder_open(const uint8_t *table, size_t table_len);
 
+/* Opens a bias file, which has the scan bias of each channel and position: 0 if it is accepted, or 1 (its length),
+ * 2 (the tag or length in it), 3 (a c0 outside its range). A file of zeros behind the first three bytes changes no
+ * temperature. */
+uint8_t sounder_open_bias(const uint8_t *bias, size_t bias_len);
+
 /* One thermometer, from the table's values (R_PAM, and R0, alpha, delta, beta of the thermometer) and the
  * record's counts: 0 and, in *t, the temperature in units of 1/4096 degree Celsius; or 8 (R_PAM or a
  * coefficient outside its range), 9 (pam not above offset), 10 (no temperature for the count), and *t stays
@@ -51,8 +57,8 @@ uint8_t sounder_open(const uint8_t *table, size_t table_len);
 uint8_t sounder_thermometer(uint32_t r_pam, uint32_t r0, uint32_t alpha, uint32_t delta, uint32_t beta,
                             uint16_t pam, uint16_t offset, uint16_t count, int32_t *t);
 
-/* Opens the table and feeds a fresh calibrator a list of scan records: 0, or the table's refusal (1 to 3),
- * which writes nothing.
+/* Opens the table and the bias file and feeds a fresh calibrator a list of scan records: 0, or the table's refusal
+ * (1 to 3), then the bias file's (1 to 3), which write nothing. sounder_open tells whether it is the table's.
  *
  * Feed i takes the next record_lengths[i] bytes of records and the next buffer_lengths[i] bytes of buffers.
  * answers[i] is 0 if the record is accepted, and its product then stands in the first 8,706 bytes of its
@@ -62,6 +68,7 @@ uint8_t sounder_thermometer(uint32_t r_pam, uint32_t r0, uint32_t alpha, uint32_
  * From the first i at which a list of lengths has ended, or records or buffers have fewer bytes left than
  * its length says, nothing more is fed, and every further answers[i] is 255 (SOUNDER_NOT_FED). */
 uint8_t sounder_feed_all(const uint8_t *table, size_t table_len,
+                         const uint8_t *bias, size_t bias_len,
                          const uint8_t *records, size_t records_len,
                          const uint32_t *record_lengths, size_t record_count,
                          uint8_t *buffers, size_t buffers_len,
@@ -70,23 +77,25 @@ uint8_t sounder_feed_all(const uint8_t *table, size_t table_len,
 
 /* ---- Scan by scan: the calibrator is a state in the caller's memory.
  *
- * A state is 2,660 bytes, big-endian, with a magic number and a version at its front; docs/RULES.md has its
+ * A state is 11,114 bytes, big-endian, with a magic number and a version at its front; docs/RULES.md has its
  * layout. It may be copied, saved, and read on another machine: a run over a list of records through states
- * gives what one call of sounder_feed_all gives. Bytes behind the 2,660 are not looked at and stay as they
+ * gives what one call of sounder_feed_all gives. Bytes behind the 11,114 are not looked at and stay as they
  * were. */
 
 /* How many bytes a state has: SOUNDER_STATE_BYTES. */
 size_t sounder_state_size(void);
 
-/* Opens the table and writes the state of a fresh calibrator: 0; or the table's refusal (1 to 3), then 254
- * (SOUNDER_NO_STATE) where state_len is below 2,660. A refusal writes nothing. The table is in the state, and
- * is not needed again. */
-uint8_t sounder_fresh(const uint8_t *table, size_t table_len, uint8_t *state, size_t state_len);
+/* Opens the table and the bias file and writes the state of a fresh calibrator: 0; or the table's refusal (1 to 3),
+ * then the bias file's (1 to 3), then 254 (SOUNDER_NO_STATE) where state_len is below 11,114. A refusal writes
+ * nothing. The table and the bias file are in the state, and are not needed again. */
+uint8_t sounder_fresh(const uint8_t *table, size_t table_len,
+                      const uint8_t *bias, size_t bias_len,
+                      uint8_t *state, size_t state_len);
 
 /* Feeds one scan record to the calibrator of a state: 0, and the product stands in the first 8,706 bytes of
  * buffer and the calibrator after it in state; or 254 (SOUNDER_NO_STATE) where the bytes are no state: fewer
- * than 2,660, a wrong front, a table that would be refused, a value out of its range; then 4 to 7 as in
- * sounder_feed_all. A refusal writes nothing. */
+ * than 11,114, a wrong front, a table or bias file that would be refused, a value out of its range; then 4 to 7 as
+ * in sounder_feed_all. A refusal writes nothing. */
 uint8_t sounder_feed(uint8_t *state, size_t state_len, const uint8_t *record, size_t record_len,
                      uint8_t *buffer, size_t buffer_len);
 

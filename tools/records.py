@@ -7,6 +7,7 @@ CALIBRATE, if set, is the program to run in place of target/bin/calibrate.
 """
 import os
 import re
+import struct
 import subprocess
 import sys
 import tempfile
@@ -15,9 +16,13 @@ from itertools import chain, islice
 
 RECORD = 4_629
 PRODUCT = 8_706
+TABLE = 741
+BIAS = 8_451
 # Where the head of a field stands, and its tag and length.
 RECORD_HEADS = ((0, b'\x01\x00\x04'), (7, b'\x02\x00\x22'), (44, b'\x03\x00\xb0'), (223, b'\x04\x00\xb0'), (402, b'\x05\x10\x80'))
 PRODUCT_HEADS = ((0, b'\x20\x00\x04'), (7, b'\x21\x00\x16'), (32, b'\x22\x21\x00'), (8_483, b'\x23\x00\xdc'))
+TABLE_HEADS = ((0, b'\x10\x00\x25'), (40, b'\x11\x00\xff'), (298, b'\x12\x01\xb8'))
+BIAS_HEADS = ((0, b'\x13\x21\x00'),)
 HERE = os.path.dirname(os.path.abspath(__file__))
 PROGRAM = os.environ.get('CALIBRATE') or os.path.join(os.path.dirname(HERE), 'target', 'bin', 'calibrate')
 STRETCH = re.compile(r'([0-9]{12})-([0-7])-([0-9]+)\.scans')
@@ -27,9 +32,13 @@ class Failure(Exception):
     """What went wrong, in words for the user."""
 
 
+def heads_right(piece, heads):
+    return all(piece[at:at + 3] == head for at, head in heads)
+
+
 def number_in(piece, size, heads):
     """The scan number, or None where the length, or a tag or length in it, is wrong."""
-    if len(piece) != size or any(piece[at:at + 3] != head for at, head in heads):
+    if len(piece) != size or not heads_right(piece, heads):
         return None
     return int.from_bytes(piece[3:7], 'big')
 
@@ -145,11 +154,35 @@ def run_program(stretch, products):
         return refusals, errors.read().decode(errors='replace').splitlines(), wrong
 
 
+def content_of(name):
+    """The bytes of a file; one that cannot be read counts as empty, as it does for calibrate."""
+    try:
+        with open(name, 'rb') as file:
+            return file.read()
+    except OSError:
+        return b''
+
+
+def refused_file(number):
+    """The file that was refused with 1, 2 or 3, which calibrate's line does not say. The table is opened first. The ranges of its values
+    do not stand here: a 3 is the bias file's where that has a c0 outside its range."""
+    table, bias = content_of('table.bin'), content_of('bias.bin')
+    if number == 1:
+        of_table = len(table) != TABLE
+    elif number == 2:
+        of_table = not heads_right(table, TABLE_HEADS)
+    else:
+        right = len(bias) == BIAS and heads_right(bias, BIAS_HEADS)
+        of_table = not right or all(-4_096 <= c0 <= 4_096 for c0, _ in struct.iter_unpack('>hh', bias[3:]))
+    return 'table.bin' if of_table else 'bias.bin'
+
+
 def checked(stretch, refusals, lines, wrong):
     """Ends in a failure where a run is not what the records call for; what explains most is said first."""
     for line in lines:
         if re.fullmatch('refused [123]', line):
-            raise Failure(f'table.bin is {line}' + ('' if os.path.exists('table.bin') else '; there is none in this folder'))
+            name = refused_file(int(line[-1]))
+            raise Failure(f'{name} is {line}' + ('' if os.path.exists(name) else '; there is none in this folder'))
         if not re.fullmatch('refused [0-9]+', line):
             raise Failure(f'calibrate said: {line}')
     if wrong:

@@ -6,11 +6,13 @@
 
 use std::fmt::Debug;
 
+use crate::check::biases::checked_bias_answer;
+use crate::check::calls::checked_call;
 use crate::check::counters::Counters;
 use crate::check::listings::{checked_listing, checked_stream};
 use crate::check::lists::checked_outcomes;
 use crate::check::numbers::checked_division;
-use crate::check::outcomes::Outcome;
+use crate::check::outcomes::{outcomes, Outcome};
 use crate::check::samples::{count_samples, kept};
 use crate::check::states::{
     checked_fresh, checked_state_feed, checked_state_run, outcome_of, probe, run_through_states,
@@ -19,16 +21,18 @@ use crate::check::states::{
 use crate::check::tables::checked_answer;
 use crate::check::thermometers::checked_thermometer;
 use crate::check::twins::checked_twin;
+use crate::check::zeros::checked_zeros;
 use crate::generator::laid_out::laid_out;
-use crate::generator::listings::listing_input;
+use crate::generator::listings::{listing_input, ListingInput};
 use crate::generator::lists::{feed_list, FeedList};
 use crate::generator::numbers::{
     division_pairs, field_case, layout_case, number_bytes, rounding_pairs,
 };
 use crate::generator::random::case_seed;
+use crate::generator::random_biases::{bias_bytes, seed_bias_neighbours};
 use crate::generator::random_tables::{seed_neighbours, table_bytes};
 use crate::generator::states::{
-    changed_bytes, fresh_input, state_feed, state_neighbours, StateFeed,
+    changed_bytes, fresh_input, state_feed, state_neighbours, FreshInput, StateFeed,
 };
 use crate::generator::thermometers::{thermometer_input, ThermometerInput};
 use crate::generator::twins::alike_twin;
@@ -36,7 +40,7 @@ use crate::second::acceptance::{accepted_samples, AcceptedSamples};
 use crate::second::bytes::{field, i16_at, i32_at, layout_is_right, u16_at, u32_at};
 use crate::second::calibrator::judge;
 use crate::second::record::ScanRecord;
-use crate::second::station::{calibrated, feed_all, LaidOut};
+use crate::second::station::{calibrated, LaidOut};
 use crate::second::table::open;
 
 fn same<T: PartialEq + Debug>(about: impl Debug, other: T, this: T) -> Result<(), String> {
@@ -134,6 +138,26 @@ pub fn all_table_neighbours(
     Ok(())
 }
 
+/// Opening a bias file: 0, or the number of the refusal.
+pub fn bias(seed: u64, other: impl Fn(&[u8]) -> u8, counters: &mut Counters) -> Result<(), String> {
+    let bytes = bias_bytes(seed);
+    let this = checked_bias_answer(&bytes, counters)?;
+    same("bias file", other(&bytes), this)
+}
+
+/// Opening every neighbour of the bias file of zeros (seed 0) or of the accepted one of a seed.
+pub fn all_bias_neighbours(
+    seed: u64,
+    other: impl Fn(&[u8]) -> u8,
+    counters: &mut Counters,
+) -> Result<(), String> {
+    for neighbour in seed_bias_neighbours(seed) {
+        let this = checked_bias_answer(&neighbour.bytes, counters)?;
+        same(&neighbour.description, other(&neighbour.bytes), this)?;
+    }
+    Ok(())
+}
+
 /// The operation One thermometer.
 pub fn thermometer(
     seed: u64,
@@ -206,15 +230,28 @@ pub fn feeds(
     same_outcomes("its twin", &other(&twin), &this)
 }
 
+/// The answers and buffers of a list of feeds under its own bias file, and under the file of zeros.
+pub fn feeds_under_zeros(
+    seed: u64,
+    other: impl Fn(&FeedList) -> Vec<Outcome>,
+    counters: &mut Counters,
+) -> Result<(), String> {
+    let list = feed_list(seed);
+    let this = outcomes(&list);
+    same_outcomes("the list", &other(&list), &this)?;
+    let this = checked_zeros(&list, &this, counters)?;
+    same_outcomes("the list under zeros", &other(&list.under_zeros()), &this)
+}
+
 /// The printed text of the listing program.
 pub fn listings(
     seed: u64,
-    other: impl Fn(Option<&[u8]>, &[u8]) -> String,
+    other: impl Fn(&ListingInput) -> String,
     counters: &mut Counters,
 ) -> Result<(), String> {
     let input = listing_input(seed);
     let this = checked_listing(&input, counters)?;
-    same("listing", other(input.table.as_deref(), &input.input), this)
+    same("listing", other(&input), this)
 }
 
 /// The first place at which two lists of bytes differ, and how long both are.
@@ -227,25 +264,29 @@ fn same_bytes(about: &str, other: &[u8], this: &[u8]) -> Result<(), String> {
 }
 
 /// A list that is fed in one call: the number answered, and every buffer and answer after it.
-pub fn lists_in_one_call(seed: u64, other: impl Fn(&mut LaidOut) -> u8) -> Result<(), String> {
-    let list = laid_out(seed);
-    let (mut by_other, mut by_this) = (list.clone(), list);
-    same("the call", other(&mut by_other), feed_all(&mut by_this))?;
-    same_bytes("answers", &by_other.answers, &by_this.answers)?;
-    same_bytes("buffers", &by_other.buffers, &by_this.buffers)
+pub fn lists_in_one_call(
+    seed: u64,
+    other: impl Fn(&mut LaidOut) -> u8,
+    counters: &mut Counters,
+) -> Result<(), String> {
+    let mut by_other = laid_out(seed);
+    let (answer, this) = checked_call(&by_other, counters)?;
+    same("the call", other(&mut by_other), answer)?;
+    same_bytes("answers", &by_other.answers, &this.answers)?;
+    same_bytes("buffers", &by_other.buffers, &this.buffers)
 }
 
 /// What the program `calibrate` writes to standard output and to standard error.
 pub fn calibrations(
     seed: u64,
-    other: impl Fn(Option<&[u8]>, &[u8]) -> (Vec<u8>, String),
+    other: impl Fn(&ListingInput) -> (Vec<u8>, String),
     counters: &mut Counters,
 ) -> Result<(), String> {
     let input = listing_input(seed);
     let _ = checked_stream(&input, counters)?;
-    let table = input.table.as_deref();
-    let (products, refusals) = other(table, &input.input);
-    let (this_products, this_refusals) = calibrated(table, &input.input);
+    let (products, refusals) = other(&input);
+    let (this_products, this_refusals) =
+        calibrated(input.table.bytes(), input.bias.bytes(), &input.input);
     same("refusals", refusals, this_refusals)?;
     same_bytes("products", &products, &this_products)
 }
@@ -253,13 +294,17 @@ pub fn calibrations(
 /// Making a fresh state: the number answered, and the whole memory after it.
 pub fn fresh_states(
     seed: u64,
-    other: impl Fn(&[u8], &mut [u8]) -> u8,
+    other: impl Fn(&[u8], &[u8], &mut [u8]) -> u8,
     counters: &mut Counters,
 ) -> Result<(), String> {
-    let (table, memory) = fresh_input(seed);
-    let (answer, this) = checked_fresh(&table, &memory, counters)?;
-    let mut by_other = memory;
-    same("fresh", other(&table, &mut by_other), answer)?;
+    let input = fresh_input(seed);
+    let (answer, this) = checked_fresh(&input, counters)?;
+    let FreshInput {
+        table,
+        bias,
+        memory: mut by_other,
+    } = input;
+    same("fresh", other(&table, &bias, &mut by_other), answer)?;
     same_bytes("fresh", &by_other, &this)
 }
 
@@ -292,7 +337,8 @@ pub fn state_feeds(
     same_state_feed("the feed", &state_feed(seed), other, counters)
 }
 
-/// The same for every neighbour of a state under the bench table (seed 0) or under an accepted one.
+/// The same for every neighbour of a state under the bench table and bias file (seed 0) or under accepted
+/// ones.
 pub fn all_state_neighbours(
     seed: u64,
     other: impl Fn(&mut [u8], &[u8], &mut [u8]) -> u8,
@@ -311,9 +357,9 @@ pub fn all_state_bytes(
     other: impl Fn(&mut [u8], &[u8], &mut [u8]) -> u8,
     counters: &mut Counters,
 ) -> Result<(), String> {
-    for (index, state) in changed_bytes(seed).iter().enumerate() {
+    for (index, state) in changed_bytes(seed).enumerate() {
         let about = format!("change {index}");
-        same_state_feed(&about, &probe(state, index), &other, counters)?;
+        same_state_feed(&about, &probe(&state, index), &other, counters)?;
     }
     Ok(())
 }
@@ -327,7 +373,7 @@ pub fn state_runs<F, G>(
     counters: &mut Counters,
 ) -> Result<(), String>
 where
-    F: Fn(&[u8], &mut [u8]) -> u8,
+    F: Fn(&[u8], &[u8], &mut [u8]) -> u8,
     G: Fn(&mut [u8], &[u8], &mut [u8]) -> u8,
 {
     let list = feed_list(seed);
@@ -344,10 +390,12 @@ where
 #[cfg(test)]
 mod tests {
     use super::*;
-    use crate::check::outcomes::outcomes;
     use crate::generator::states::StateValues;
+    use crate::second::bias::open_bias;
     use crate::second::listing::listing;
+    use crate::second::rounding::r;
     use crate::second::state;
+    use crate::second::station::feed_all;
     use crate::second::thermometer::one_thermometer;
 
     /// Whether a comparison fails at one of the first seeds.
@@ -447,6 +495,42 @@ mod tests {
     }
 
     #[test]
+    fn bias_files_differ_where_a_test_is_left_out() {
+        let right = |bytes: &[u8]| open_bias(bytes).err().unwrap_or(0);
+        assert!(!finds(|seed, counters| bias(seed, right, counters), 50));
+        assert!(!finds(
+            |seed, counters| all_bias_neighbours(seed, right, counters),
+            1
+        ));
+        // The last pair is not looked at.
+        let no_last = |bytes: &[u8]| match bytes.len() {
+            8_451 => right(&[&bytes[..8_447], &[0; 4]].concat()),
+            _ => right(bytes),
+        };
+        // e has the range of c0.
+        let ranged_e = |bytes: &[u8]| {
+            let moved = [&bytes[..3.min(bytes.len())], bytes.get(5..).unwrap_or(&[])].concat();
+            match right(bytes) {
+                0 => right(&[&moved[..], &[0; 2]].concat()),
+                answer => answer,
+            }
+        };
+        // c0 is tested before the head.
+        let head_last = |bytes: &[u8]| match right(bytes) {
+            2 => right(&[&[0x13, 0x21, 0x00], &bytes[3..]].concat()).max(2),
+            answer => answer,
+        };
+        let wrongs: [&dyn Fn(&[u8]) -> u8; 3] = [&no_last, &ranged_e, &head_last];
+        for wrong in wrongs {
+            assert!(finds(
+                |seed, counters| all_bias_neighbours(seed, wrong, counters),
+                1
+            ));
+            assert!(finds(|seed, counters| bias(seed, wrong, counters), 400));
+        }
+    }
+
+    #[test]
     fn thermometers_differ_by_one_unit() {
         let right = |input: &ThermometerInput| {
             one_thermometer(&input.reading(), &input.coefficients()).map(|t| t as i32)
@@ -492,20 +576,91 @@ mod tests {
         assert!(finds(|seed, counters| feeds(seed, wrong, counters), 2));
     }
 
+    /// What a list leaves where each delivered scene is made anew of its pair and of T.
+    fn with_scenes(list: &FeedList, scene: impl Fn(i128, i128, i128) -> i128) -> Vec<Outcome> {
+        let mut all = outcomes(list);
+        let without = outcomes(&list.under_zeros());
+        for (own, without) in all.iter_mut().zip(&without) {
+            if own.answer != 0 {
+                continue;
+            }
+            for place in 0..2_112 {
+                let at = 35 + 4 * place;
+                let four: [u8; 4] = without.buffer[at..at + 4].try_into().unwrap();
+                let t = (f32::from_be_bytes(four) * 4096.0) as i128;
+                if t > 0 {
+                    let pair = 3 + 4 * place;
+                    let c0 = i16_at(&list.bias, pair) as i128;
+                    let e = i16_at(&list.bias, pair + 2) as i128;
+                    let kelvin = scene(t, c0, e) as f32 / 4096.0;
+                    own.buffer[at..at + 4].copy_from_slice(&kelvin.to_be_bytes());
+                }
+            }
+        }
+        all
+    }
+
+    #[test]
+    fn feeds_differ_where_scan_bias_is_rounded_or_formed_in_another_way() {
+        let right = |t: i128, c0: i128, e: i128| c0 + r((65_536 + e) * t, 65_536);
+        assert!(!finds(
+            |seed, counters| feeds(seed, |list| with_scenes(list, right), counters),
+            2
+        ));
+        let wrongs: [fn(i128, i128, i128) -> i128; 5] = [
+            // Halves down, cut towards 0, c0 before e, no e, no c0.
+            |t, c0, e| c0 - r(-(65_536 + e) * t, 65_536),
+            |t, c0, e| c0 + t + e * t / 65_536,
+            |t, c0, e| r((65_536 + e) * (t + c0), 65_536),
+            |t, c0, _| c0 + t,
+            |t, _, e| r((65_536 + e) * t, 65_536),
+        ];
+        for (index, wrong) in wrongs.into_iter().enumerate() {
+            let finds_it = finds(
+                |seed, counters| feeds(seed, |list| with_scenes(list, wrong), counters),
+                8,
+            );
+            assert!(finds_it, "way {index}");
+        }
+    }
+
+    #[test]
+    fn feeds_under_zeros_differ_where_the_bias_file_is_not_looked_at() {
+        assert!(!finds(
+            |seed, counters| feeds_under_zeros(seed, outcomes, counters),
+            3
+        ));
+        let wrong = |list: &FeedList| outcomes(&list.under_zeros());
+        assert!(finds(
+            |seed, counters| feeds_under_zeros(seed, wrong, counters),
+            3
+        ));
+    }
+
     #[test]
     fn listings_differ_by_a_line_feed() {
-        assert!(!finds(
-            |seed, counters| listings(seed, listing, counters),
-            10
-        ));
-        let wrong =
-            |table: Option<&[u8]>, input: &[u8]| listing(table, input).trim_end().to_string();
+        let right =
+            |input: &ListingInput| listing(input.table.bytes(), input.bias.bytes(), &input.input);
+        assert!(!finds(|seed, counters| listings(seed, right, counters), 10));
+        let wrong = |input: &ListingInput| right(input).trim_end().to_string();
         assert!(finds(|seed, counters| listings(seed, wrong, counters), 10));
     }
 
     #[test]
+    fn listings_differ_where_the_bias_file_is_opened_first() {
+        let wrong = |input: &ListingInput| match open_bias(input.bias.bytes().unwrap_or(&[])) {
+            Err(number) => format!("refused {number}\n"),
+            Ok(_) => listing(input.table.bytes(), input.bias.bytes(), &input.input),
+        };
+        assert!(finds(|seed, counters| listings(seed, wrong, counters), 60));
+    }
+
+    #[test]
     fn lists_in_one_call_differ_where_the_rest_is_not_answered() {
-        assert!(!finds(|seed, _| lists_in_one_call(seed, feed_all), 5));
+        assert!(!finds(
+            |seed, counters| lists_in_one_call(seed, feed_all, counters),
+            5
+        ));
         let wrong = |list: &mut LaidOut| {
             let number = feed_all(list);
             if let Some(answer) = list.answers.iter_mut().find(|answer| **answer == 255) {
@@ -513,17 +668,23 @@ mod tests {
             }
             number
         };
-        assert!(finds(|seed, _| lists_in_one_call(seed, wrong), 40));
+        assert!(finds(
+            |seed, counters| lists_in_one_call(seed, wrong, counters),
+            40
+        ));
     }
 
     #[test]
     fn calibrations_differ_where_a_refusal_leaves_a_product() {
+        let right = |input: &ListingInput| {
+            calibrated(input.table.bytes(), input.bias.bytes(), &input.input)
+        };
         assert!(!finds(
-            |seed, counters| calibrations(seed, calibrated, counters),
+            |seed, counters| calibrations(seed, right, counters),
             5
         ));
-        let wrong = |table: Option<&[u8]>, input: &[u8]| {
-            let (mut products, refusals) = calibrated(table, input);
+        let wrong = |input: &ListingInput| {
+            let (mut products, refusals) = right(input);
             products.extend(refusals.bytes());
             (products, refusals)
         };
@@ -539,9 +700,9 @@ mod tests {
             |seed, counters| fresh_states(seed, state::fresh, counters),
             50
         ));
-        let wrong = |table: &[u8], memory: &mut [u8]| {
+        let wrong = |table: &[u8], bias: &[u8], memory: &mut [u8]| {
             let before = memory.to_vec();
-            let answer = state::fresh(table, memory);
+            let answer = state::fresh(table, bias, memory);
             if answer == 0 {
                 memory[759..763].copy_from_slice(&before[759..763]);
             }
@@ -551,10 +712,18 @@ mod tests {
             |seed, counters| fresh_states(seed, wrong, counters),
             50
         ));
-        // The room is tested after the table.
-        let wrong = |table: &[u8], memory: &mut [u8]| match memory.len() {
-            0..=2_659 => 254,
-            _ => state::fresh(table, memory),
+        // The room is tested after table and bias file, and the bias file after the table.
+        let wrong = |table: &[u8], bias: &[u8], memory: &mut [u8]| match memory.len() {
+            0..=11_113 if open(table).is_ok() => 254,
+            _ => state::fresh(table, bias, memory),
+        };
+        assert!(finds(
+            |seed, counters| fresh_states(seed, wrong, counters),
+            50
+        ));
+        let wrong = |table: &[u8], bias: &[u8], memory: &mut [u8]| match open_bias(bias) {
+            Err(number) => number,
+            Ok(_) => state::fresh(table, bias, memory),
         };
         assert!(finds(
             |seed, counters| fresh_states(seed, wrong, counters),
@@ -571,7 +740,7 @@ mod tests {
         let wrong = |memory: &mut [u8], record: &[u8], buffer: &mut [u8]| {
             let answer = state::feed(memory, record, buffer);
             if answer == 0 {
-                memory[2_659] ^= 1;
+                memory[11_113] ^= 1;
             }
             answer
         };
@@ -604,7 +773,7 @@ mod tests {
         ));
         // Bytes that are taken as a state after a repair that no rule has.
         type Repair = fn(&mut StateValues);
-        let repairs: [Repair; 4] = [
+        let repairs: [Repair; 6] = [
             |values| values.accepted = values.accepted.min(1),
             |values| values.number *= u32::from(values.accepted),
             |values| values.warm[7][21] = values.warm[7][21].min(786_421),
@@ -613,11 +782,17 @@ mod tests {
                     values.thermometers[7] = [0; 15];
                 }
             },
+            |values| values.bias[0] = 0x13,
+            |values| {
+                if values.bias[8_447..8_449] == [0xef, 0xff] {
+                    values.bias[8_447..8_449].fill(0);
+                }
+            },
         ];
         for repair in repairs {
             let wrong = |memory: &mut [u8], record: &[u8], buffer: &mut [u8]| {
                 let answer = state::feed(memory, record, buffer);
-                if answer != 254 || memory.len() < 2_660 {
+                if answer != 254 || memory.len() < 11_114 {
                     return answer;
                 }
                 let mut values = StateValues::decode(memory);
@@ -631,7 +806,7 @@ mod tests {
         }
         let no_version = |memory: &mut [u8], record: &[u8], buffer: &mut [u8]| {
             let mut repaired = memory.to_vec();
-            repaired[7..11].copy_from_slice(&[0, 0, 0, 1]);
+            repaired[7..11].copy_from_slice(&[0, 0, 0, 2]);
             state::feed(&mut repaired, record, buffer)
         };
         assert!(finds(

@@ -15,8 +15,10 @@ use crate::check::counters::Counters;
 use crate::check::outcomes::Outcome;
 use crate::check::run::{seed_of_case, Check};
 use crate::check::states::StateFunctions;
+use crate::generator::biases::BiasValues;
 use crate::generator::laid_out::lay_out;
 use crate::generator::layouts::RECORD;
+use crate::generator::listings::{FileInput, ListingInput};
 use crate::generator::lists::FeedList;
 use crate::generator::random::case_seed;
 use crate::generator::records::RecordValues;
@@ -59,6 +61,8 @@ extern "C" {
         d: i64,
         slope: i64,
         base: i64,
+        pairs: *const u32,
+        pairs_length: usize,
         earth: *const u8,
         earth_length: usize,
     ) -> u32;
@@ -67,6 +71,7 @@ extern "C" {
 // Of include/sounder.h.
 extern "C" {
     fn sounder_open(table: *const u8, table_length: usize) -> u8;
+    fn sounder_open_bias(bias: *const u8, bias_length: usize) -> u8;
     fn sounder_thermometer(
         r_pam: u32,
         r0: u32,
@@ -81,6 +86,8 @@ extern "C" {
     fn sounder_feed_all(
         table: *const u8,
         table_length: usize,
+        bias: *const u8,
+        bias_length: usize,
         records: *const u8,
         records_length: usize,
         record_lengths: *const u32,
@@ -96,6 +103,8 @@ extern "C" {
     fn sounder_fresh(
         table: *const u8,
         table_length: usize,
+        bias: *const u8,
+        bias_length: usize,
         state: *mut u8,
         state_length: usize,
     ) -> u8;
@@ -199,6 +208,26 @@ fn open(bytes: &[u8]) -> u8 {
     unsafe { sounder_open(bytes.as_ptr(), bytes.len()) }
 }
 
+/// The same of a bias file.
+fn open_bias(bytes: &[u8]) -> u8 {
+    unsafe { sounder_open_bias(bytes.as_ptr(), bytes.len()) }
+}
+
+/// The pairs of an accepted bias file as the writer of a product takes them, channel by channel: for
+/// each position 65,536 + e and 65,536 (c0 + 32,768) + 32,768.
+#[derive(Clone)]
+pub struct Pairs(Vec<u32>);
+
+impl Pairs {
+    pub fn of(bias: &[u8]) -> Pairs {
+        assert_eq!(open_bias(bias), 0);
+        let raised = |at: usize| u16::from_be_bytes([bias[at], bias[at + 1]]) ^ 0x8000;
+        let factor = |k: usize| raised(5 + 4 * k) as u32 + 32_768;
+        let offset = |k: usize| 65_536 * raised(3 + 4 * k) as u32 + 32_768;
+        Pairs((0..2_112).flat_map(|k| [factor(k), offset(k)]).collect())
+    }
+}
+
 /// The 59 values that a scan keeps of its accepted samples.
 fn kept(table: &[u8], scan: &[u8]) -> Vec<u32> {
     (0..59).map(|k| kept_value(table, scan, k)).collect()
@@ -222,7 +251,7 @@ fn in_range(k: &Constants) -> bool {
 }
 
 /// Writes a product whose channels all have flag 0 and these constants: the count of delivered scenes.
-pub fn product(buffer: &mut [u8], number: u32, k: &Constants, earth: &[u8]) -> u32 {
+pub fn product(buffer: &mut [u8], number: u32, k: &Constants, pairs: &Pairs, earth: &[u8]) -> u32 {
     assert!(buffer.len() >= LENGTH && earth.len() == 4_224 && in_range(k));
     let (start, length) = (buffer.as_mut_ptr(), buffer.len());
     unsafe {
@@ -236,18 +265,23 @@ pub fn product(buffer: &mut [u8], number: u32, k: &Constants, earth: &[u8]) -> u
             k.d,
             k.slope,
             k.base,
+            pairs.0.as_ptr(),
+            pairs.0.len(),
             earth.as_ptr(),
             earth.len(),
         )
     }
 }
 
-/// Feeds a list to a fresh calibrator in one call: 0, or the number of the table's refusal.
+/// Feeds a list to a fresh calibrator in one call: 0, or the number of the table's refusal, then of the bias
+/// file's.
 pub fn feed_all(list: &mut LaidOut) -> u8 {
     unsafe {
         sounder_feed_all(
             list.table.as_ptr(),
             list.table.len(),
+            list.bias.as_ptr(),
+            list.bias.len(),
             list.records.as_ptr(),
             list.records.len(),
             list.record_lengths.as_ptr(),
@@ -262,10 +296,18 @@ pub fn feed_all(list: &mut LaidOut) -> u8 {
     }
 }
 
-/// Writes the state of a fresh calibrator: 0, 1 to 3 of the table, or 254.
-pub fn fresh(table: &[u8], state: &mut [u8]) -> u8 {
-    let (start, length) = (state.as_mut_ptr(), state.len());
-    unsafe { sounder_fresh(table.as_ptr(), table.len(), start, length) }
+/// Writes the state of a fresh calibrator: 0, 1 to 3 of the table, then of the bias file, or 254.
+pub fn fresh(table: &[u8], bias: &[u8], state: &mut [u8]) -> u8 {
+    unsafe {
+        sounder_fresh(
+            table.as_ptr(),
+            table.len(),
+            bias.as_ptr(),
+            bias.len(),
+            state.as_mut_ptr(),
+            state.len(),
+        )
+    }
 }
 
 /// Feeds one record to the calibrator of a state: 0, 254, or 4 to 7.
@@ -295,8 +337,8 @@ fn with_bytes_behind<T>(memory: &mut [u8], call: impl FnOnce(&mut [u8]) -> T) ->
     answer
 }
 
-fn guarded_fresh(table: &[u8], state: &mut [u8]) -> u8 {
-    with_bytes_behind(state, |state| fresh(table, state))
+fn guarded_fresh(table: &[u8], bias: &[u8], state: &mut [u8]) -> u8 {
+    with_bytes_behind(state, |state| fresh(table, bias, state))
 }
 
 fn guarded_feed(state: &mut [u8], record: &[u8], buffer: &mut [u8]) -> u8 {
@@ -313,61 +355,70 @@ fn state_size(_: u64, _: &mut Counters) -> Result<(), String> {
     Err(format!("the size of a state: {size}"))
 }
 
-/// Null pointers with a count of 0 are empty: an empty table is refused with 1, under the bench table
-/// no feed is there, no memory has room for a state or is one, an empty record is refused with 4 and
-/// an empty buffer with 7.
+/// Feeds a list without a feed and with room for three answers, under these bytes or null.
+fn feed_nothing(table: Option<&[u8]>, bias: Option<&[u8]>, answers: &mut [u8; 3]) -> u8 {
+    let start = |bytes: Option<&[u8]>| bytes.map_or(null(), <[u8]>::as_ptr);
+    let count = |bytes: Option<&[u8]>| bytes.map_or(0, <[u8]>::len);
+    unsafe {
+        sounder_feed_all(
+            start(table),
+            count(table),
+            start(bias),
+            count(bias),
+            null(),
+            0,
+            null(),
+            0,
+            null_mut(),
+            0,
+            null(),
+            0,
+            answers.as_mut_ptr(),
+            answers.len(),
+        )
+    }
+}
+
+/// Null pointers with a count of 0 are empty: an empty table is refused with 1 and so is an empty bias file,
+/// under the bench table and bias file no feed is there, no memory has room for a state or is one, an empty
+/// record is refused with 4 and an empty buffer with 7.
 fn null_pointers(_: u64, _: &mut Counters) -> Result<(), String> {
     let table = TableValues::bench().encode();
+    let bias = BiasValues::zeros().encode();
     let record = RecordValues::bench().encode();
-    let (lengths, room) = (null(), null_mut());
+    let room = null_mut();
     let mut answers = [77; 3];
     let mut state = vec![0; state::LENGTH];
-    let made = fresh(&table, &mut state);
+    let made = fresh(&table, &bias, &mut state);
     let before = state.clone();
     let memory = (state.as_mut_ptr(), state.len());
+    let refused = [
+        feed_nothing(None, None, &mut answers),
+        feed_nothing(None, Some(&bias), &mut answers),
+        feed_nothing(Some(&table), None, &mut answers),
+    ];
+    let untouched = answers == [77; 3];
+    let fed = feed_nothing(Some(&table), Some(&bias), &mut answers);
+    let (table, bias) = ((table.as_ptr(), table.len()), (bias.as_ptr(), bias.len()));
     let met = unsafe {
         [
             sounder_open(null(), 0),
-            sounder_feed_all(
-                null(),
-                0,
-                null(),
-                0,
-                lengths,
-                0,
-                room,
-                0,
-                lengths,
-                0,
-                room,
-                0,
-            ),
-            sounder_feed_all(
-                table.as_ptr(),
-                table.len(),
-                null(),
-                0,
-                lengths,
-                0,
-                room,
-                0,
-                lengths,
-                0,
-                answers.as_mut_ptr(),
-                answers.len(),
-            ),
-            made,
-            sounder_fresh(null(), 0, room, 0),
-            sounder_fresh(table.as_ptr(), table.len(), room, 0),
+            sounder_open_bias(null(), 0),
+            sounder_fresh(null(), 0, null(), 0, room, 0),
+            sounder_fresh(table.0, table.1, null(), 0, room, 0),
+            sounder_fresh(table.0, table.1, bias.0, bias.1, room, 0),
             sounder_feed(room, 0, null(), 0, room, 0),
             sounder_feed(memory.0, memory.1, null(), 0, room, 0),
             sounder_feed(memory.0, memory.1, record.as_ptr(), record.len(), room, 0),
         ]
     };
-    if met == [1, 1, 0, 0, 1, 254, 254, 4, 7] && answers == [255; 3] && state == before {
+    let right = met == [1, 1, 1, 1, 254, 254, 4, 7] && made == 0 && state == before;
+    if right && refused == [1; 3] && untouched && fed == 0 && answers == [255; 3] {
         return Ok(());
     }
-    Err(format!("null pointers: {met:?} {answers:?}"))
+    Err(format!(
+        "null pointers: {met:?} {made} {refused:?} {fed} {answers:?}"
+    ))
 }
 
 /// How many feeds of lists have been compared in this run.
@@ -382,7 +433,7 @@ fn feeds(list: &FeedList) -> Vec<Outcome> {
 /// What each feed of a list left.
 fn outcomes_at_once(list: &FeedList) -> Vec<Outcome> {
     let mut laid_out = lay_out(list);
-    assert_eq!(feed_all(&mut laid_out), 0, "a list has an accepted table");
+    assert_eq!(feed_all(&mut laid_out), 0, "a list has accepted files");
     let mut rest = &laid_out.buffers[..];
     let mut outcomes = Vec::new();
     for (answer, room) in laid_out.answers.iter().zip(&laid_out.buffer_lengths) {
@@ -399,17 +450,26 @@ fn outcomes_at_once(list: &FeedList) -> Vec<Outcome> {
 /// How many runs of the programs were begun.
 static RUNS: AtomicU64 = AtomicU64::new(0);
 
+/// Puts what a program finds under a file's name into its folder, which is empty at first.
+fn place(folder: &Path, name: &str, file: &FileInput) {
+    match file {
+        FileInput::Missing => {}
+        FileInput::Folder => std::fs::create_dir(folder.join(name)).expect("a temporary folder"),
+        FileInput::Bytes(bytes) => {
+            std::fs::write(folder.join(name), bytes).expect("a temporary file")
+        }
+    }
+}
+
 /// What a proved program writes to standard output and to standard error, run in a folder of its own.
-fn run_program(name: &str, table: Option<&[u8]>, input: &[u8]) -> (Vec<u8>, String) {
+fn run_program(name: &str, input: &ListingInput) -> (Vec<u8>, String) {
     let program = Path::new(env!("CARGO_MANIFEST_DIR")).join(format!("../target/bin/{name}"));
     let run = RUNS.fetch_add(1, Ordering::Relaxed);
     let folder = std::env::temp_dir().join(format!("{name}-{}-{run}", std::process::id()));
+    drop(std::fs::remove_dir_all(&folder));
     std::fs::create_dir_all(&folder).expect("a temporary folder");
-    let file = folder.join("table.bin");
-    match table {
-        Some(bytes) => std::fs::write(&file, bytes).expect("a temporary file"),
-        None => drop(std::fs::remove_file(&file)),
-    }
+    place(&folder, "table.bin", &input.table);
+    place(&folder, "bias.bin", &input.bias);
     let mut child = Command::new(program)
         .current_dir(&folder)
         .stdin(Stdio::piped())
@@ -418,8 +478,8 @@ fn run_program(name: &str, table: Option<&[u8]>, input: &[u8]) -> (Vec<u8>, Stri
         .spawn()
         .expect("the program is built");
     let mut stdin = child.stdin.take().expect("a pipe");
-    let bytes = input.to_vec();
-    // A refused table ends the program before it has read its input.
+    let bytes = input.input.clone();
+    // A refused table or bias file ends the program before it has read its input.
     let writer = std::thread::spawn(move || drop(stdin.write_all(&bytes)));
     let output = child.wait_with_output().expect("the program ends");
     writer.join().expect("the input is written");
@@ -428,18 +488,18 @@ fn run_program(name: &str, table: Option<&[u8]>, input: &[u8]) -> (Vec<u8>, Stri
     (output.stdout, errors)
 }
 
-fn listing(table: Option<&[u8]>, input: &[u8]) -> String {
-    let (lines, errors) = run_program("listing", table, input);
+fn listing(input: &ListingInput) -> String {
+    let (lines, errors) = run_program("listing", input);
     assert_eq!(errors, "", "the listing writes to standard output alone");
     String::from_utf8(lines).expect("lines of text")
 }
 
-fn calibrate(table: Option<&[u8]>, input: &[u8]) -> (Vec<u8>, String) {
-    run_program("calibrate", table, input)
+fn calibrate(input: &ListingInput) -> (Vec<u8>, String) {
+    run_program("calibrate", input)
 }
 
 /// The comparisons by the name that `--case` takes, and how many cases of each are run for a thousand.
-pub const KINDS: [(&str, Check, u64); 20] = [
+pub const KINDS: [(&str, Check, u64); 23] = [
     (
         "floor_div",
         |seed, counters| against::divisions(seed, floor_div, counters),
@@ -473,6 +533,16 @@ pub const KINDS: [(&str, Check, u64); 20] = [
         1,
     ),
     (
+        "bias",
+        |seed, counters| against::bias(seed, open_bias, counters),
+        1_000,
+    ),
+    (
+        "bias_neighbours",
+        |seed, counters| against::all_bias_neighbours(seed, open_bias, counters),
+        1,
+    ),
+    (
         "kept",
         |seed, counters| against::kept_values(seed, kept, counters),
         30,
@@ -483,20 +553,25 @@ pub const KINDS: [(&str, Check, u64); 20] = [
         80,
     ),
     (
+        "zeros",
+        |seed, counters| against::feeds_under_zeros(seed, outcomes_at_once, counters),
+        10,
+    ),
+    (
         "one_call",
-        |seed, _| against::lists_in_one_call(seed, feed_all),
+        |seed, counters| against::lists_in_one_call(seed, feed_all, counters),
         20,
     ),
     ("null_pointers", null_pointers, 1),
     (
         "listing",
         |seed, counters| against::listings(seed, listing, counters),
-        30,
+        40,
     ),
     (
         "calibrate",
         |seed, counters| against::calibrations(seed, calibrate, counters),
-        30,
+        40,
     ),
     ("state_size", state_size, 1),
     (

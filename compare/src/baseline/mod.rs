@@ -8,6 +8,8 @@ mod thermometer;
 
 mod table;
 
+mod bias;
+
 mod acceptance;
 
 mod window;
@@ -19,8 +21,9 @@ mod product;
 mod calibrator;
 
 pub use acceptance::accepted_scan;
+pub use bias::{open_bias, Bias};
 pub use calibrator::Calibrator;
 pub use product::write_product;
-pub use scene::{scene_bits, Constants};
+pub use scene::Constants;
 pub use table::{open, Table};
 pub use thermometer::thermometer;

@@ -1,5 +1,6 @@
 //! The product.
 
+use super::bias::{Bias, Pair, POSITIONS};
 use super::bytes::u16_at;
 use super::scene::{scene, Constants, Scene};
 use super::table::CHANNELS;
@@ -7,8 +8,8 @@ use super::table::CHANNELS;
 pub const LENGTH: usize = 8_706;
 
 /// Bytes of the scenes, the earth counts and the summary of a channel.
-const SCENE_BYTES: usize = 4 * 96;
-const EARTH_BYTES: usize = 2 * 96;
+const SCENE_BYTES: usize = 4 * POSITIONS;
+const EARTH_BYTES: usize = 2 * POSITIONS;
 const SUMMARY_BYTES: usize = 10;
 
 /// The f32 of a flagged channel's scenes, and of both temperatures where none is delivered.
@@ -51,10 +52,11 @@ impl Summary {
 }
 
 /// Writes the scenes of a channel with flag 0.
-fn write_scenes(bytes: &mut [u8], k: &Constants, earth: &[u8]) -> Summary {
+fn write_scenes(bytes: &mut [u8], k: &Constants, pairs: &[Pair], earth: &[u8]) -> Summary {
     let mut summary = Summary::EMPTY;
-    for (bytes, count) in bytes.chunks_exact_mut(4).zip(earth.chunks_exact(2)) {
-        let scene = scene(k, u16_at(count, 0));
+    let scenes = bytes.chunks_exact_mut(4).zip(earth.chunks_exact(2));
+    for ((bytes, count), pair) in scenes.zip(pairs) {
+        let scene = scene(k, *pair, u16_at(count, 0));
         if let Scene::Kelvin(kelvin) = scene {
             summary.add(kelvin);
         }
@@ -76,6 +78,7 @@ pub fn write_product(
     number: u32,
     flags: &[u8; CHANNELS],
     constants: &[Constants; CHANNELS],
+    bias: &Bias,
     earth: &[u8],
 ) -> u32 {
     let (front, rest) = buffer[..LENGTH].split_at_mut(35);
@@ -92,9 +95,10 @@ pub fn write_product(
     let earth = earth.chunks_exact(EARTH_BYTES);
     let scenes = scenes.chunks_exact_mut(SCENE_BYTES);
     let summaries = summaries.chunks_exact_mut(SUMMARY_BYTES);
-    for (channel, ((earth, scenes), bytes)) in earth.zip(scenes).zip(summaries).enumerate() {
+    let parts = earth.zip(scenes).zip(summaries).zip(bias.channels());
+    for (channel, (((earth, scenes), bytes), pairs)) in parts.enumerate() {
         let summary = if flags[channel] == 0 {
-            write_scenes(scenes, &constants[channel], earth)
+            write_scenes(scenes, &constants[channel], pairs, earth)
         } else {
             write_flagged(scenes);
             Summary::EMPTY

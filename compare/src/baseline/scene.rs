@@ -1,5 +1,7 @@
 //! Scenes.
 
+use super::bias::Pair;
+
 /// What the scenes of a channel with flag 0 share.
 #[derive(Clone, Copy, Debug, Default)]
 pub struct Constants {
@@ -31,9 +33,10 @@ pub fn r(a: i64, b: i64) -> i64 {
     (2 * a + b).div_euclid(2 * b)
 }
 
-/// The scene of a count. N is below 2^36 and the rise below 2^21, so nothing leaves i64.
+/// The scene of a count at the position of a pair. N is below 2^36 and the rise below 2^21, so nothing
+/// leaves i64.
 #[inline(always)]
-pub fn scene(k: &Constants, count: u16) -> Scene {
+pub fn scene(k: &Constants, pair: Pair, count: u16) -> Scene {
     let n = k.slope * count as i64 - k.base;
     if n < 0 || 4 * n > 5 * k.d {
         return Scene::Outside;
@@ -43,7 +46,8 @@ pub fn scene(k: &Constants, count: u16) -> Scene {
     if !(1..=16_777_215).contains(&t) {
         return Scene::Guard;
     }
-    Scene::Kelvin(t as f32 * (1.0 / 4096.0))
+    let b = pair.c0 as i64 + r((65_536 + pair.e as i64) * t, 65_536);
+    Scene::Kelvin(b as f32 * (1.0 / 4096.0))
 }
 
 impl Scene {
@@ -58,15 +62,26 @@ impl Scene {
     }
 }
 
-/// The four bytes of a scene of a channel with flag 0.
-pub fn scene_bits(k: &Constants, count: u16) -> u32 {
-    scene(k, count).bits()
-}
-
 #[cfg(test)]
 mod tests {
     use super::*;
     use crate::generator::random::Random;
+
+    const NO_BIAS: Pair = Pair { c0: 0, e: 0 };
+
+    /// The four bytes of a scene of a channel with flag 0.
+    fn scene_bits(k: &Constants, pair: Pair, count: u16) -> u32 {
+        scene(k, pair, count).bits()
+    }
+
+    /// c0 and e at 0, at an end, or anywhere.
+    fn random_pair(random: &mut Random) -> Pair {
+        let any = (random.between(-4_096, 4_096) as i16, random.next() as i16);
+        Pair {
+            c0: random.pick(&[0, -4_096, 4_096, any.0]),
+            e: random.pick(&[0, -32_768, 32_767, 16_384, -16_384, any.1]),
+        }
+    }
 
     /// Aw and Ac for Ww and Wc: any, or of equal counts, where x meets quarters exactly, or with D
     /// near 0.
@@ -114,8 +129,8 @@ mod tests {
         counts
     }
 
-    /// The heading Scenes in i128, word by word.
-    fn formula(k: &Constants, count: u16) -> f32 {
+    /// The headings Scenes and scan bias in i128, word by word.
+    fn formula(k: &Constants, pair: Pair, count: u16) -> f32 {
         let r = |a: i128, b: i128| (2 * a + b).div_euclid(2 * b);
         let n = k.slope as i128 * count as i128 - k.base as i128;
         let d = k.d as i128;
@@ -129,7 +144,8 @@ mod tests {
         if t < 1 || t > 16_777_215 {
             return -3.0;
         }
-        (t as f64 / 4096.0) as f32
+        let b = pair.c0 as i128 + r((65_536 + pair.e as i128) * t, 65_536);
+        (b as f64 / 4096.0) as f32
     }
 
     #[test]
@@ -139,8 +155,10 @@ mod tests {
         for _ in 0..20_000 {
             let k = random_constants(&mut random);
             for count in counts(&mut random, &k) {
-                let expected = formula(&k, count);
-                assert_eq!(scene_bits(&k, count), expected.to_bits(), "{k:?} {count}");
+                let pair = random_pair(&mut random);
+                let expected = formula(&k, pair, count);
+                let bits = scene_bits(&k, pair, count);
+                assert_eq!(bits, expected.to_bits(), "{k:?} {pair:?} {count}");
                 delivered += u32::from(expected > 0.0);
                 outside += u32::from(expected == -2.0);
             }
@@ -166,10 +184,10 @@ mod tests {
             (10_001, 11_277.0),
         ];
         for (count, t) in units {
-            assert_eq!(f32::from_bits(scene_bits(&k, count)), t / 4096.0);
+            assert_eq!(f32::from_bits(scene_bits(&k, NO_BIAS, count)), t / 4096.0);
         }
         for count in [9_999, 22_501] {
-            assert_eq!(f32::from_bits(scene_bits(&k, count)), -2.0);
+            assert_eq!(f32::from_bits(scene_bits(&k, NO_BIAS, count)), -2.0);
         }
     }
 
@@ -182,11 +200,29 @@ mod tests {
                 d: 1,
                 ..Constants::default()
             };
-            f32::from_bits(scene_bits(&k, 0))
+            f32::from_bits(scene_bits(&k, NO_BIAS, 0))
         };
         assert_eq!(at(0), -3.0);
         assert_eq!(at(1), 1.0 / 4096.0);
         assert_eq!(at(16_777_215), 16_777_215.0 / 4096.0);
         assert_eq!(at(16_777_216), -3.0);
+    }
+
+    #[test]
+    fn scan_bias_of_the_worked_example() {
+        // T is tc.
+        let units = |tc: i64, c0: i16, e: i16| {
+            let k = Constants {
+                tc,
+                d: 1,
+                ..Constants::default()
+            };
+            f32::from_bits(scene_bits(&k, Pair { c0, e }, 0)) * 4096.0
+        };
+        assert_eq!(units(565_394, 0, 0), 565_394.0);
+        assert_eq!(units(565_395, 4_096, -32_768), 286_794.0);
+        assert_eq!(units(565_394, -4_096, 32_767), 843_986.0);
+        assert_eq!(units(32_768, -1, 1), 32_768.0);
+        assert_eq!(units(32_768, 1, -1), 32_769.0);
     }
 }

@@ -7,6 +7,7 @@ use compare::baseline;
 use compare::generator::laid_out::lay_out;
 use compare::generator::lists::{Feed, FeedList};
 use compare::generator::random::{case_seed, Random};
+use compare::generator::random_biases::any_bias;
 use compare::generator::records::RecordValues;
 use compare::generator::tables::TableValues;
 use compare::generator::thermometers::{thermometer_input, ThermometerInput};
@@ -105,6 +106,11 @@ const CONSTANTS: baseline::Constants = baseline::Constants {
     base: 155_520_000,
 };
 
+/// A bias file with every c0 and e at random.
+fn bias_file() -> Vec<u8> {
+    any_bias(&mut Random::new(3)).encode()
+}
+
 /// The writer of a product alone: every channel has flag 0, and every scene is delivered.
 fn products() {
     let mut random = Random::new(2);
@@ -112,6 +118,9 @@ fn products() {
     let earth: Vec<u8> = counts.flat_map(u16::to_be_bytes).collect();
     let (mut first, mut second) = (vec![0; LENGTH], vec![0; LENGTH]);
     let constants = [CONSTANTS; 22];
+    let bytes = bias_file();
+    let pairs = proved::Pairs::of(&bytes);
+    let bias = baseline::open_bias(&bytes).expect("the bias file is accepted");
     let times = least_times(
         20_000,
         1,
@@ -121,6 +130,7 @@ fn products() {
                     &mut first,
                     7,
                     black_box(&CONSTANTS),
+                    black_box(&pairs),
                     black_box(&earth),
                 ));
             },
@@ -130,6 +140,7 @@ fn products() {
                     7,
                     &[0; 22],
                     black_box(&constants),
+                    black_box(&bias),
                     black_box(&earth),
                 ));
             },
@@ -140,8 +151,8 @@ fn products() {
 }
 
 /// Consecutive bench scans with earth counts at random between the cold and the warm counts, under the
-/// bench table with a weight for each age: from the eighth scan on the window is full, and every
-/// scene is delivered.
+/// bench table with a weight for each age and a bias file at random: from the eighth scan on the window is
+/// full, and every scene is delivered.
 fn scans(count: usize) -> FeedList {
     let mut random = Random::new(1);
     let mut table = TableValues::bench();
@@ -166,6 +177,7 @@ fn scans(count: usize) -> FeedList {
         .collect();
     FeedList {
         table: table.encode(),
+        bias: bias_file(),
         feeds,
     }
 }
@@ -173,7 +185,8 @@ fn scans(count: usize) -> FeedList {
 /// Feeds a list by the hand-written calibrator, from the same bytes into buffers laid out alike.
 fn baseline_feeds(list: &LaidOut, buffers: &mut [u8]) {
     let table = baseline::open(&list.table).expect("the bench table is accepted");
-    let mut calibrator = baseline::Calibrator::fresh(table);
+    let bias = baseline::open_bias(&list.bias).expect("the bias file is accepted");
+    let mut calibrator = baseline::Calibrator::fresh(table, bias);
     let (mut scans, mut buffers) = (&list.records[..], buffers);
     for (size, room) in list.record_lengths.iter().zip(&list.buffer_lengths) {
         let (record, later_scans) = scans.split_at(*size as usize);
@@ -217,7 +230,7 @@ fn feeds(count: usize, rounds: usize) {
 
 /// Feeds a list one record at a time to a state, which is fresh at first.
 fn feeds_of_state(list: &LaidOut, state: &mut [u8], buffers: &mut [u8]) {
-    assert_eq!(proved::fresh(&list.table, state), 0);
+    assert_eq!(proved::fresh(&list.table, &list.bias, state), 0);
     let (mut scans, mut buffers) = (&list.records[..], buffers);
     for (size, room) in list.record_lengths.iter().zip(&list.buffer_lengths) {
         let (record, later_scans) = scans.split_at(*size as usize);
@@ -288,6 +301,7 @@ fn parts() {
     let mut list = lay_out(&feeds);
     let record = &feeds.feeds[0].record;
     let earth = &record[405..];
+    let pairs = proved::Pairs::of(&feeds.bias);
     let (mut product, mut scenes) = (vec![0; LENGTH], vec![0; 2 * earth.len()]);
     let times = least_times(
         300,
@@ -301,8 +315,8 @@ fn parts() {
             },
             &mut || {
                 for _ in 0..COUNT {
-                    let k = black_box(&CONSTANTS);
-                    black_box(proved::product(&mut product, 7, k, black_box(earth)));
+                    let (k, pairs) = black_box((&CONSTANTS, &pairs));
+                    black_box(proved::product(&mut product, 7, k, pairs, black_box(earth)));
                 }
             },
             &mut || {

@@ -1,11 +1,12 @@
 //! Checks of the programs' inputs, and of the listing: each line against the feed it stands for,
 //! delivered scenes counted in field 0x22.
 
+use super::biases::checked_bias_answer;
 use super::counters::Counters;
 use super::lists::checked_outcomes;
 use super::outcomes::Outcome;
 use super::tables::checked_answer;
-use crate::generator::listings::{listing_input, ListingInput};
+use crate::generator::listings::{listing_input, FileInput, ListingInput};
 use crate::generator::lists::{Feed, FeedList};
 use crate::second::listing::listing;
 use crate::second::product::{number_of, LENGTH};
@@ -41,20 +42,57 @@ fn count_numbers(numbers: &[u32], counters: &mut Counters) {
     }
 }
 
-/// What the records of an input leave, or the refusal of its table.
+/// Counts what stands under the name of a file.
+fn count_file(name: &str, file: &FileInput, counters: &mut Counters) {
+    let class = match file {
+        FileInput::Missing => format!("{name} missing"),
+        FileInput::Folder => format!("{name} a folder"),
+        FileInput::Bytes(_) => return,
+    };
+    counters.met("program input", &class);
+}
+
+/// Counts an input whose table is accepted, with the answer to its bias file.
+fn count_bias(bias: &FileInput, answer: u8, counters: &mut Counters) {
+    count_file("bias", bias, counters);
+    if let Some(length @ (8_450 | 8_452)) = bias.bytes().map(<[u8]>::len) {
+        counters.met("program input", &format!("bias of {length} bytes"));
+    }
+    if answer == 3 {
+        counters.met("program input", "bias with a c0 outside");
+    }
+    if answer != 0 {
+        counters.met("program input", "bias refused");
+    }
+}
+
+/// The refusal of an input's table, or else that of its bias file, or 0.
+fn checked_files(input: &ListingInput, counters: &mut Counters) -> Result<u8, String> {
+    count_file("table", &input.table, counters);
+    let bytes = |file: &FileInput| file.bytes().unwrap_or(&[]).to_vec();
+    let table = checked_answer(&bytes(&input.table), counters)?;
+    let bias = checked_bias_answer(&bytes(&input.bias), counters)?;
+    if table == 0 {
+        count_bias(&input.bias, bias, counters);
+        return Ok(bias);
+    }
+    counters.met("program input", "table refused");
+    if bias != 0 && bias != table {
+        counters.met("program input", "bias refused with another number");
+    }
+    Ok(table)
+}
+
+/// What the records of an input leave, or the refusal of its table or bias file.
 pub fn checked_stream(
     input: &ListingInput,
     counters: &mut Counters,
 ) -> Result<Result<Vec<Outcome>, u8>, String> {
-    if input.table.is_none() {
-        counters.met("program input", "table missing");
-    }
-    let table = input.table.clone().unwrap_or_default();
-    let number = checked_answer(&table, counters)?;
-    if number != 0 {
-        counters.met("program input", "table refused");
+    let number = checked_files(input, counters)?;
+    let (FileInput::Bytes(table), FileInput::Bytes(bias), 0) = (&input.table, &input.bias, number)
+    else {
         return Ok(Err(number));
-    }
+    };
     let feed = |record: &[u8]| Feed {
         record: record.to_vec(),
         buffer: vec![0; LENGTH],
@@ -69,7 +107,12 @@ pub fn checked_stream(
     if input.input.len() / 4_629 >= 12 {
         counters.met("program input", "12 or more records");
     }
-    let outcomes = checked_outcomes(&FeedList { table, feeds }, counters)?;
+    let list = FeedList {
+        table: table.clone(),
+        bias: bias.clone(),
+        feeds,
+    };
+    let outcomes = checked_outcomes(&list, counters)?;
     let accepted = outcomes.iter().filter(|outcome| outcome.answer == 0);
     let numbers: Vec<u32> = accepted.map(|outcome| number_of(&outcome.buffer)).collect();
     count_numbers(&numbers, counters);
@@ -82,7 +125,7 @@ pub fn check_listing(seed: u64, counters: &mut Counters) -> Result<(), String> {
 
 /// The printed text.
 pub fn checked_listing(input: &ListingInput, counters: &mut Counters) -> Result<String, String> {
-    let printed = listing(input.table.as_deref(), &input.input);
+    let printed = listing(input.table.bytes(), input.bias.bytes(), &input.input);
     let mut expected = String::new();
     match checked_stream(input, counters)? {
         Err(number) => expected += &format!("refused {number}\n"),

@@ -14,7 +14,6 @@ use crate::generator::twins::alike_twin;
 use crate::second::acceptance::accepted_samples;
 use crate::second::calibrator::Calibrator;
 use crate::second::product::LENGTH;
-use crate::second::table::open;
 use crate::second::window::window_records;
 
 /// Which of 4 to 7 apply to a feed, each stated for itself where it can be.
@@ -93,8 +92,9 @@ fn count_feed(feed: &Feed, last: Option<u32>, all: &[u8], counters: &mut Counter
 
 /// Feeds a list and checks every feed.
 pub fn checked_outcomes(list: &FeedList, counters: &mut Counters) -> Result<Vec<Outcome>, String> {
-    let table = open(&list.table).expect("a list has an accepted table");
-    let mut calibrator = Calibrator::fresh(table.clone());
+    let opened = Calibrator::of_files(&list.table, &list.bias);
+    let mut calibrator = opened.expect("a list has an accepted table and bias file");
+    let table = calibrator.table().clone();
     let mut accepted: BTreeMap<u32, ScanValues> = BTreeMap::new();
     let mut outcomes = Vec::new();
     for (index, feed) in list.feeds.iter().enumerate() {
@@ -132,7 +132,8 @@ pub fn checked_outcomes(list: &FeedList, counters: &mut Counters) -> Result<Vec<
             count_samples(&table, &record, &samples, counters);
             accepted.insert(record.number(), scan_values(&samples));
             let product = &buffer[..LENGTH];
-            check_product(&table, &record, product, &accepted, counters).map_err(about)?;
+            check_product(&table, &list.bias, &record, product, &accepted, counters)
+                .map_err(about)?;
             // The restart feeds up to eight records again, so not after every feed.
             if index % 3 == 0 {
                 if calibrator.product_after_restart() != product {

@@ -6,6 +6,8 @@ pub mod numbers;
 
 pub mod tables;
 
+pub mod biases;
+
 pub mod thermometers;
 
 pub mod rules;
@@ -19,6 +21,10 @@ pub mod outcomes;
 pub mod lists;
 
 pub mod twins;
+
+pub mod zeros;
+
+pub mod calls;
 
 pub mod listings;
 

@@ -2,7 +2,6 @@
 
 use crate::generator::lists::FeedList;
 use crate::second::calibrator::Calibrator;
-use crate::second::table::open;
 
 /// What one feed left: the answer, 0 or the number of the refusal, and the buffer.
 #[derive(Clone, Debug, PartialEq, Eq)]
@@ -13,8 +12,8 @@ pub struct Outcome {
 
 /// Feeds a list to a fresh calibrator.
 pub fn outcomes(list: &FeedList) -> Vec<Outcome> {
-    let table = open(&list.table).expect("a list has an accepted table");
-    let mut calibrator = Calibrator::fresh(table);
+    let opened = Calibrator::of_files(&list.table, &list.bias);
+    let mut calibrator = opened.expect("a list has an accepted table and bias file");
     let mut outcomes = Vec::new();
     for feed in &list.feeds {
         let mut buffer = feed.buffer.clone();

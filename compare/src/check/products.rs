@@ -1,18 +1,26 @@
-//! Checks of one product by its bytes: flags, delivered exactly when, distance to E, summaries.
+//! Checks of one product by its bytes: flags, delivered exactly when, scan bias, distance to E, summaries.
 
 use std::collections::BTreeMap;
 
 use super::counters::Counters;
-use super::rules;
+use super::rules::{self, Pair};
 use crate::second::bytes::layout_is_right;
 use crate::second::product::{flag_of, number_of, scene_of, summary_of, LAYOUT};
 use crate::second::record::{ScanRecord, SCENES};
 use crate::second::rounding::r;
 use crate::second::table::{Table, CHANNELS};
 
+/// A delivered scene: B in kelvin, and T in units.
+#[derive(Clone, Copy, Debug)]
+struct Delivered {
+    kelvin: f32,
+    t: i128,
+}
+
 /// What is checked of the scenes of one channel.
 struct ChannelCheck<'a> {
     table: &'a Table,
+    bias: &'a [u8],
     channel: usize,
     sums: rules::Sums,
     /// The channel's weight sums suffice and its mean warm count is above its mean cold.
@@ -20,11 +28,20 @@ struct ChannelCheck<'a> {
 }
 
 impl ChannelCheck<'_> {
-    /// Checks one scene and says whether it is delivered.
-    fn scene(&self, count: u16, value: f32, counters: &mut Counters) -> Result<bool, String> {
+    /// Checks one scene and hands it back if it is delivered.
+    fn scene(
+        &self,
+        position: usize,
+        count: u16,
+        value: f32,
+        counters: &mut Counters,
+    ) -> Result<Option<Delivered>, String> {
         let about = format!("channel {} count {count}", self.channel + 1);
         let d = rules::difference(&self.sums);
         let n = rules::numerator(&self.sums, count);
+        if self.usable {
+            self.count_edges(count, n, d, counters);
+        }
         let inside = n >= 0 && 4 * n <= 5 * d;
         let expected_mark = match (self.usable, inside) {
             (false, _) => Some(-1.0),
@@ -36,30 +53,48 @@ impl ChannelCheck<'_> {
             if value.to_bits() != f32::to_bits(mark) {
                 return Err(format!("{about}: {value}, expected the mark {mark}"));
             }
-        } else {
-            let units = value as f64 * 4096.0;
-            if !(units >= 1.0 && units <= 16_777_215.0 && units.fract() == 0.0) {
-                return Err(format!("{about}: {value} is no temperature"));
-            }
-            let near = |distance: i128| {
-                let units = units as i128;
-                rules::is_near_e(self.table, self.channel, &self.sums, count, units, distance)
-            };
-            if !near(2) {
-                return Err(format!("{about}: {units} units are more than 2 from E"));
-            }
-            let class = if near(1) {
-                "within 1 of E"
-            } else {
-                "beyond 1 of E"
-            };
-            counters.met("rounding of a scene", class);
-            self.count_halves(n, d, counters);
+            return Ok(None);
         }
-        if self.usable {
-            self.count_edges(count, n, d, counters);
+        let pair = rules::pair(self.bias, self.channel, position);
+        let t = self
+            .temperature(count, value, pair, counters)
+            .map_err(|what| format!("{about}: {what}"))?;
+        self.count_halves(n, d, counters);
+        Ok(Some(Delivered { kelvin: value, t }))
+    }
+
+    /// Checks a temperature in kelvin, after scan bias, and gives T, before it.
+    fn temperature(
+        &self,
+        count: u16,
+        kelvin: f32,
+        pair: Pair,
+        counters: &mut Counters,
+    ) -> Result<i128, String> {
+        let units = kelvin as f64 * 4096.0;
+        if !(units >= 1.0 && units <= 16_777_215.0 && units.fract() == 0.0) {
+            return Err(format!("{kelvin} is no temperature"));
         }
-        Ok(expected_mark.is_none())
+        let b = units as i128;
+        let e = rules::exact(self.table, self.channel, &self.sums, count);
+        let biased = e.biased(pair);
+        if !biased.is_near(b, 7) {
+            return Err(format!("{b} units are more than 7/2 from equation 30"));
+        }
+        let t = rules::temperature(self.table, self.channel, &self.sums, count);
+        if !e.is_near(t, 4) {
+            return Err(format!("T {t} is more than 2 from E"));
+        }
+        if !rules::is_biased(b, t, pair) {
+            return Err(format!("{b} units are not T {t} with {pair:?}"));
+        }
+        let near = |near: bool, classes: [&'static str; 2]| classes[usize::from(!near)];
+        let class = near(e.is_near(t, 2), ["within 1 of E", "beyond 1 of E"]);
+        counters.met("rounding of a scene", class);
+        let classes = ["within 2 of equation 30", "beyond 2 of equation 30"];
+        counters.met("scan bias", near(biased.is_near(b, 4), classes));
+        count_bias(t, pair, counters);
+        Ok(t)
     }
 
     fn count_halves(&self, n: i128, d: i128, counters: &mut Counters) {
@@ -93,8 +128,55 @@ impl ChannelCheck<'_> {
     }
 }
 
+/// Counts at which ends a pair stands, and the halves that it makes of T.
+fn count_bias(t: i128, pair: Pair, counters: &mut Counters) {
+    let mut met = |class: &str| counters.met("scan bias", class);
+    match pair.c0 {
+        -4_096 => met("c0 at -4096"),
+        4_096 => met("c0 at 4096"),
+        _ => {}
+    }
+    match pair.e {
+        -32_768 => met("e at -32768"),
+        32_767 => met("e at 32767"),
+        _ => {}
+    }
+    if pair.c0 == 0 && pair.e == 0 {
+        met("none");
+    }
+    if rules::is_half(t, pair) {
+        let above = pair.e > 0;
+        met(if above {
+            "half, e above 0"
+        } else {
+            "half, e below 0"
+        });
+        if pair.e % 2 != 0 {
+            met(if above {
+                "half, odd e above 0"
+            } else {
+                "half, odd e below 0"
+            });
+        }
+    }
+}
+
+/// Counts whether scan bias makes another scene the lowest or the highest of a channel.
+fn count_moved_ends(delivered: &[Delivered], counters: &mut Counters) {
+    let by_kelvin = |one: &&Delivered, other: &&Delivered| one.kelvin.total_cmp(&other.kelvin);
+    let lowest = delivered.iter().min_by(by_kelvin);
+    let highest = delivered.iter().max_by(by_kelvin);
+    if lowest.is_some_and(|lowest| delivered.iter().any(|one| one.t < lowest.t)) {
+        counters.met("scan bias", "another scene is lowest");
+    }
+    if highest.is_some_and(|highest| delivered.iter().any(|one| one.t > highest.t)) {
+        counters.met("scan bias", "another scene is highest");
+    }
+}
+
 fn check_channel(
     table: &Table,
+    bias: &[u8],
     record: &ScanRecord,
     product: &[u8],
     sums: rules::Sums,
@@ -140,27 +222,29 @@ fn check_channel(
 
     let check = ChannelCheck {
         table,
+        bias,
         channel,
         sums,
         usable: suffice && d > 0,
     };
     let mut delivered = Vec::new();
     let mut marks = BTreeMap::new();
-    for (place, count) in record.earth_counts(channel).into_iter().enumerate() {
-        let value = scene_of(product, channel, place);
-        if check.scene(count, value, counters)? {
-            delivered.push(value);
-        } else {
-            *marks.entry(format!("{value}")).or_insert(0) += 1;
+    for (position, count) in record.earth_counts(channel).into_iter().enumerate() {
+        let value = scene_of(product, channel, position);
+        match check.scene(position, count, value, counters)? {
+            Some(one) => delivered.push(one),
+            None => *marks.entry(format!("{value}")).or_insert(0) += 1,
         }
     }
     counters.met_times("scene", "delivered", delivered.len() as u64);
     for (mark, times) in marks {
         counters.met_times("scene", &mark, times);
     }
+    count_moved_ends(&delivered, counters);
     let summary = summary_of(product, channel);
-    let lowest = delivered.iter().copied().reduce(f32::min).unwrap_or(-1.0);
-    let highest = delivered.iter().copied().reduce(f32::max).unwrap_or(-1.0);
+    let kelvin = || delivered.iter().map(|one| one.kelvin);
+    let lowest = kelvin().reduce(f32::min).unwrap_or(-1.0);
+    let highest = kelvin().reduce(f32::max).unwrap_or(-1.0);
     let right = summary.delivered as usize == delivered.len()
         && summary.lowest.to_bits() == lowest.to_bits()
         && summary.highest.to_bits() == highest.to_bits();
@@ -180,9 +264,10 @@ fn check_channel(
     Ok(())
 }
 
-/// Checks one accepted feed by its product's bytes.
+/// Checks one accepted feed under these bytes of a bias file by its product's bytes.
 pub fn check_product(
     table: &Table,
+    bias: &[u8],
     record: &ScanRecord,
     product: &[u8],
     accepted: &BTreeMap<u32, rules::ScanValues>,
@@ -208,7 +293,7 @@ pub fn check_product(
     counters.met("records in window", &in_window.to_string());
     for channel in 0..CHANNELS {
         let sums = rules::sums(table, accepted, number, channel);
-        check_channel(table, record, product, sums, channel, counters)?;
+        check_channel(table, bias, record, product, sums, channel, counters)?;
     }
     Ok(())
 }
@@ -216,22 +301,33 @@ pub fn check_product(
 #[cfg(test)]
 mod tests {
     use super::*;
+    use crate::generator::biases::{BiasValues, PairValues};
     use crate::generator::records::RecordValues;
     use crate::generator::tables::TableValues;
     use crate::second::acceptance::accepted_samples;
+    use crate::second::bias::open_bias;
     use crate::second::product::product;
     use crate::second::table::open;
     use crate::second::window::window;
 
-    /// The first bench product, with some bytes changed, checked again.
-    fn checked(change: impl Fn(&mut [u8])) -> Result<(), String> {
+    /// The bench product under a bias file, with some bytes changed, checked again.
+    fn checked(bias: &BiasValues, change: impl Fn(&mut [u8])) -> Result<(), String> {
         let table = open(&TableValues::bench().encode()).unwrap();
+        let bytes = bias.encode();
+        let bias = open_bias(&bytes).unwrap();
         let record = ScanRecord::read(&RecordValues::bench().encode()).unwrap();
-        let mut product = product(&table, &record, &window(&table, &[record.clone()]));
+        let window = window(&table, &[record.clone()]);
+        let mut product = product(&table, &bias, &record, &window);
         change(&mut product);
         let values = rules::scan_values(&accepted_samples(&table, &record));
         let accepted = BTreeMap::from([(7, values)]);
-        check_product(&table, &record, &product, &accepted, &mut Counters::new())
+        let mut counters = Counters::new();
+        check_product(&table, &bytes, &record, &product, &accepted, &mut counters)
+    }
+
+    /// The same with other units in the first scene.
+    fn with_units(bias: &BiasValues, units: i32) -> Result<(), String> {
+        checked(bias, |product| put_scene(product, units as f32 / 4096.0))
     }
 
     fn put_scene(product: &mut [u8], value: f32) {
@@ -240,26 +336,49 @@ mod tests {
 
     #[test]
     fn the_product_itself_passes() {
-        assert_eq!(checked(|_| {}), Ok(()));
+        assert_eq!(checked(&BiasValues::zeros(), |_| {}), Ok(()));
     }
 
     #[test]
     fn every_part_of_a_product_is_checked() {
-        let scene = |value: f32| checked(|product| put_scene(product, value));
-        // 565,394 units are right. 2 units more are near enough to E, but then the summary is not
-        // that of the scenes; 3 are too far.
-        assert!(scene(565_396.0 / 4096.0).unwrap_err().contains("Summary"));
-        assert!(scene(565_397.0 / 4096.0).unwrap_err().contains("from E"));
-        assert!(scene(565_391.0 / 4096.0).unwrap_err().contains("from E"));
+        let zeros = BiasValues::zeros();
+        let scene = |value: f32| checked(&zeros, |product| put_scene(product, value));
+        // 565,394 units are right, and are E. 3 more are near enough to it, but not T.
+        for units in [565_391, 565_393, 565_395, 565_397] {
+            assert!(with_units(&zeros, units).unwrap_err().contains("not T"));
+        }
+        for units in [565_390, 565_398] {
+            assert!(with_units(&zeros, units).unwrap_err().contains("7/2"));
+        }
         assert!(scene(-1.0).unwrap_err().contains("no temperature"));
         assert!(scene(-3.0).unwrap_err().contains("no temperature"));
         assert!(scene(f32::NAN).unwrap_err().contains("no temperature"));
-        let byte = |at: usize| checked(|product| product[at] ^= 1).unwrap_err();
+        let byte = |at: usize| checked(&zeros, |product| product[at] ^= 1).unwrap_err();
         assert!(byte(0).contains("tag"));
         assert!(byte(6).contains("scan"));
         assert!(byte(10).contains("flag"));
         assert!(byte(8_487).contains("Summary"));
         assert!(byte(8_490).contains("Summary"));
         assert!(byte(8_705).contains("Summary"));
+    }
+
+    #[test]
+    fn the_bias_of_each_scene_is_checked() {
+        let mut bias = BiasValues::zeros();
+        bias.pairs[0][0] = PairValues { c0: -7, e: -16_384 };
+        // 3/4 × 565,394 - 7 = 424,038.5, rounded up.
+        assert_eq!(with_units(&bias, 424_039), Ok(()));
+        for units in [424_035, 424_038, 424_040, 424_042] {
+            assert!(with_units(&bias, units).unwrap_err().contains("not T"));
+        }
+        for units in [424_034, 424_043, 565_394] {
+            assert!(with_units(&bias, units).unwrap_err().contains("7/2"));
+        }
+        // The summary is that of the scenes after scan bias.
+        let without = |product: &mut [u8]| {
+            let kelvin = (565_394.0f32 / 4096.0).to_bits().to_be_bytes();
+            product[8_488..8_492].copy_from_slice(&kelvin);
+        };
+        assert!(checked(&bias, without).unwrap_err().contains("Summary"));
     }
 }

@@ -2,6 +2,8 @@
 
 use std::panic::{catch_unwind, AssertUnwindSafe};
 
+use super::biases::{check_bias, check_bias_neighbours};
+use super::calls::check_call;
 use super::counters::Counters;
 use super::listings::check_listing;
 use super::lists::check_list;
@@ -11,18 +13,23 @@ use super::states::{
 };
 use super::tables::{check_neighbours, check_table};
 use super::thermometers::check_thermometer;
+use super::zeros::check_zeros;
 use crate::generator::random::case_seed;
 
 /// Runs the case of a seed and counts what it met.
 pub type Check = fn(u64, &mut Counters) -> Result<(), String>;
 
 /// The kinds of cases, by the name that `--case` takes.
-pub const KINDS: [(&str, Check); 11] = [
+pub const KINDS: [(&str, Check); 15] = [
     ("division", check_divisions),
     ("neighbours", check_neighbours),
     ("table", check_table),
+    ("bias_neighbours", check_bias_neighbours),
+    ("bias", check_bias),
     ("thermometer", check_thermometer),
     ("list", check_list),
+    ("zeros", check_zeros),
+    ("one_call", check_call),
     ("listing", check_listing),
     ("fresh", check_fresh),
     ("state", check_state_feed),
@@ -75,7 +82,8 @@ fn fed(counters: &Counters) -> u64 {
     counts.iter().sum()
 }
 
-/// The seed of a case. The first neighbours are those of the bench table and of a state under it.
+/// The seed of a case. The first neighbours are those of the bench table and bias file, and of a state
+/// under them.
 pub fn seed_of_case(kind: &str, master: u64, index: u64) -> u64 {
     if kind.ends_with("neighbours") && index == 0 {
         0
@@ -91,12 +99,16 @@ pub fn run_all(seed: u64, feeds: u64, counters: &mut Counters) -> Result<(), Fai
         let cases = match kind {
             "division" => feeds / 30 + 1,
             "neighbours" => feeds / 1_000 + 1,
-            "table" => feeds / 3 + 1,
+            "bias_neighbours" => feeds / 2_000 + 1,
+            "table" | "bias" => feeds / 3 + 1,
             "thermometer" => 5 * feeds,
-            "listing" => feeds / 40 + 1,
+            "zeros" => feeds / 100 + 1,
+            "one_call" => feeds / 80 + 1,
+            "listing" => feeds / 25 + 1,
             "fresh" => feeds / 10 + 1,
             "state" => feeds / 8 + 1,
-            "state_neighbours" | "state_bytes" => feeds / 4_000 + 1,
+            "state_neighbours" => feeds / 4_000 + 1,
+            "state_bytes" => feeds / 8_000 + 1,
             "state_run" => feeds / 100 + 1,
             _ => u64::MAX,
         };

@@ -3,6 +3,7 @@
 
 use std::collections::BTreeMap;
 
+use super::biases::{count_edges, plain_bias_answer};
 use super::counters::Counters;
 use super::lists::refusals;
 use super::outcomes::{outcomes, Outcome};
@@ -14,7 +15,7 @@ use crate::generator::lists::{feed_list, Feed, FeedList};
 use crate::generator::random::{case_seed, Random};
 use crate::generator::records::RecordValues;
 use crate::generator::states::{
-    changed_bytes, fresh_input, state_feed, state_neighbours, StateFeed, StateValues,
+    changed_bytes, fresh_input, state_feed, state_neighbours, FreshInput, StateFeed, StateValues,
 };
 use crate::second::acceptance::accepted_samples;
 use crate::second::calibrator::{judge, Calibrator};
@@ -38,7 +39,7 @@ fn values_of_age(bytes: &[u8], (first, step): (usize, usize), age: usize) -> Vec
 
 /// Why bytes are no state, each reason stated for itself where it can be.
 pub fn reasons(bytes: &[u8]) -> Vec<&'static str> {
-    if bytes.len() < 2_660 {
+    if bytes.len() < 11_114 {
         return vec!["fewer bytes"];
     }
     let mut all: Vec<&'static str> = Vec::new();
@@ -53,16 +54,24 @@ pub fn reasons(bytes: &[u8]) -> Vec<&'static str> {
     if heads.iter().any(|(at, head)| bytes[*at..at + 3] != *head) {
         all.push("head");
     }
+    if bytes[2_660..2_663] != [0x36, 33, 3] {
+        all.push("head of 0x36");
+    }
     if bytes[3..7] != *b"SNDR" {
         all.push("magic number");
     }
-    if bytes[7..11] != [0, 0, 0, 1] {
+    if bytes[7..11] != [0, 0, 0, 2] {
         all.push("version");
     }
     match plain_answer(&bytes[14..755]) {
         0 => {}
         2 => all.push("table 2"),
         _ => all.push("table 3"),
+    }
+    match plain_bias_answer(&bytes[2_663..11_114]) {
+        0 => {}
+        2 => all.push("bias 2"),
+        _ => all.push("bias 3"),
     }
     let number = u32_at(bytes, 759);
     if bytes[758] > 1 {
@@ -100,8 +109,10 @@ pub fn reasons(bytes: &[u8]) -> Vec<&'static str> {
 /// Counts what stands in the bytes that a function is given as a state.
 fn count_state(bytes: &[u8], reasons: &[&str], counters: &mut Counters) {
     match bytes.len() {
-        length @ (0 | 2_659 | 2_660 | 2_661) => counters.met("state length", &length.to_string()),
-        length if length > 2_661 => counters.met("state length", "longer"),
+        length @ (0 | 2_660 | 11_113 | 11_114 | 11_115) => {
+            counters.met("state length", &length.to_string())
+        }
+        length if length > 11_115 => counters.met("state length", "longer"),
         _ => {}
     }
     // Where one reason alone holds, it decides.
@@ -111,26 +122,33 @@ fn count_state(bytes: &[u8], reasons: &[&str], counters: &mut Counters) {
     if reasons.len() > 1 {
         counters.met("no state", "more than one");
     }
-    if bytes.len() < 2_660 {
+    if bytes.len() < 11_114 {
         return;
     }
+    if let version @ 0..=3 = u32_at(bytes, 7) {
+        counters.met("version of a state", &version.to_string());
+    }
+    let bias = &bytes[2_663..11_114];
+    count_edges(bias, ["c0 of a state", "e of a state"], counters);
     if let byte @ (0 | 1 | 2 | 255) = bytes[758] {
         counters.met("first byte of 0x32", &byte.to_string());
     }
+    // A state has hundreds of values, so each class is counted once.
+    let mut edges: BTreeMap<(&str, u32), u64> = BTreeMap::new();
     for (which, field) in BY_AGE.into_iter().enumerate() {
         for age in 0..8 {
             for value in values_of_age(bytes, field, age) {
-                match (which, value) {
-                    (2, 873_061 | 873_062 | 1_364_582 | 1_364_583) => {
-                        counters.met("T of a state", &value.to_string())
-                    }
-                    (0 | 1, 1 | 786_421 | 786_422) => {
-                        counters.met("side of a state", &value.to_string())
-                    }
-                    _ => {}
-                }
+                let group = match (which, value) {
+                    (2, 873_061 | 873_062 | 1_364_582 | 1_364_583) => "T of a state",
+                    (0 | 1, 1 | 786_421 | 786_422) => "side of a state",
+                    _ => continue,
+                };
+                *edges.entry((group, value)).or_insert(0) += 1;
             }
         }
+    }
+    for ((group, value), times) in edges {
+        counters.met_times(group, &value.to_string(), times);
     }
     let number = u32_at(bytes, 759);
     if bytes[758] == 1 && number < 8 {
@@ -191,14 +209,14 @@ fn check_accepted(
     let wrong = |what: &str| Err(format!("accepted: {what}"));
     let before = &feed.state;
     let state = &after.state;
-    if state.len() != before.len() || state[2_660..] != before[2_660..] {
+    if state.len() != before.len() || state[11_114..] != before[11_114..] {
         return wrong("bytes behind the state changed");
     }
     let buffer = &after.buffer;
     if buffer.len() != feed.buffer.len() || buffer[8_706..] != feed.buffer[8_706..] {
         return wrong("bytes behind the product changed");
     }
-    for stays in [0..758, 763..766, 1_470..1_473, 2_177..2_180] {
+    for stays in [0..758, 763..766, 1_470..1_473, 2_177..2_180, 2_660..11_114] {
         if state[stays.clone()] != before[stays.clone()] {
             return wrong(&format!("bytes {stays:?} of the state changed"));
         }
@@ -245,7 +263,8 @@ fn check_accepted(
     }
     let mut scans = scans_of(before);
     scans.insert(record.number(), scan_values(&samples));
-    check_product(&table, &record, &buffer[..8_706], &scans, counters)
+    let (bias, product) = (&before[2_663..11_114], &buffer[..8_706]);
+    check_product(&table, bias, &record, product, &scans, counters)
 }
 
 /// What one feed to a state left.
@@ -321,7 +340,7 @@ pub fn probe(state: &[u8], index: usize) -> StateFeed {
         record: Vec::new(),
         buffer: vec![5; 8_707],
     };
-    if index % 64 < 4 && state.len() >= 2_660 {
+    if index % 64 < 4 && state.len() >= 11_114 {
         let last = u32_at(state, 759);
         let mut record = RecordValues::bench();
         record.number = last.saturating_add(1 + (index / 64) as u32 % 9);
@@ -366,37 +385,63 @@ pub fn check_state_neighbours(seed: u64, counters: &mut Counters) -> Result<(), 
 
 /// Every byte of a state changed, one at a time.
 pub fn check_state_bytes(seed: u64, counters: &mut Counters) -> Result<(), String> {
-    for (index, state) in changed_bytes(seed).iter().enumerate() {
-        checked_state_feed(&probe(state, index), counters)?;
+    for (index, state) in changed_bytes(seed).enumerate() {
+        checked_state_feed(&probe(&state, index), counters)?;
     }
     Ok(())
 }
 
+/// Which answers a fresh state meets, in order: what each is of, and its number.
+fn fresh_answers(input: &FreshInput) -> Vec<(&'static str, u8)> {
+    let mut all = vec![
+        ("table", plain_answer(&input.table)),
+        ("bias", plain_bias_answer(&input.bias)),
+    ];
+    if input.memory.len() < 11_114 {
+        all.push(("254", 254));
+    }
+    all.retain(|(_, number)| *number != 0);
+    all
+}
+
+/// Counts the answer, and where another order would give another one.
+fn count_fresh(all: &[(&str, u8)], counters: &mut Counters) {
+    let Some(((of, number), later)) = all.split_first() else {
+        counters.met("fresh answer", "0");
+        return;
+    };
+    let class = match *of {
+        "254" => "254".to_string(),
+        of => format!("{of} {number}"),
+    };
+    counters.met("fresh answer", &class);
+    for (later_of, later_number) in later {
+        if later_number != number {
+            let class = format!("{class} and {later_of}");
+            counters.met("two answers of a fresh state", &class);
+        }
+    }
+}
+
 /// Makes a fresh state in some memory: the answer, and the memory after it.
-pub fn checked_fresh(
-    table: &[u8],
-    memory: &[u8],
-    counters: &mut Counters,
-) -> Result<(u8, Vec<u8>), String> {
-    let mut all = Vec::new();
-    all.extend(Some(plain_answer(table)).filter(|answer| *answer != 0));
-    if memory.len() < 2_660 {
-        all.push(254);
-    }
-    let expected = all.first().copied().unwrap_or(0);
-    counters.met("fresh answer", &expected.to_string());
-    if let [first, 254] = all[..] {
-        counters.met("two answers of a fresh state", &format!("{first} and 254"));
-    }
-    let mut after = memory.to_vec();
-    let answer = state::fresh(table, &mut after);
+pub fn checked_fresh(input: &FreshInput, counters: &mut Counters) -> Result<(u8, Vec<u8>), String> {
+    let FreshInput {
+        table,
+        bias,
+        memory,
+    } = input;
+    let all = fresh_answers(input);
+    count_fresh(&all, counters);
+    let expected = all.first().map_or(0, |(_, number)| *number);
+    let mut after = memory.clone();
+    let answer = state::fresh(table, bias, &mut after);
     if answer != expected {
         return Err(format!("fresh: {answer}, expected {expected}"));
     }
-    let mut left = memory.to_vec();
+    let mut left = memory.clone();
     if answer == 0 {
-        let state = StateValues::fresh(table.to_vec()).encode();
-        left[..2_660].copy_from_slice(&state);
+        let state = StateValues::fresh(table.clone(), bias.clone()).encode();
+        left[..11_114].copy_from_slice(&state);
     }
     if after != left {
         return Err(format!("fresh: {answer}, the memory is another"));
@@ -405,14 +450,13 @@ pub fn checked_fresh(
 }
 
 pub fn check_fresh(seed: u64, counters: &mut Counters) -> Result<(), String> {
-    let (table, memory) = fresh_input(seed);
-    checked_fresh(&table, &memory, counters).map(drop)
+    checked_fresh(&fresh_input(seed), counters).map(drop)
 }
 
 /// The two C functions of an implementation that work on states.
 #[derive(Clone, Copy)]
 pub struct StateFunctions<F, G> {
-    /// Table and state.
+    /// Table, bias file and state.
     pub fresh: F,
     /// State, record and buffer.
     pub feed: G,
@@ -420,16 +464,16 @@ pub struct StateFunctions<F, G> {
 
 /// A state made anew from the records of its window.
 fn rebuilt<F, G>(
-    table: &[u8],
+    list: &FeedList,
     roll: &[ScanRecord],
     functions: &StateFunctions<F, G>,
 ) -> Result<Vec<u8>, String>
 where
-    F: Fn(&[u8], &mut [u8]) -> u8,
+    F: Fn(&[u8], &[u8], &mut [u8]) -> u8,
     G: Fn(&mut [u8], &[u8], &mut [u8]) -> u8,
 {
-    let mut state = vec![3; 2_660];
-    let mut answers = vec![(functions.fresh)(table, &mut state)];
+    let mut state = vec![3; 11_114];
+    let mut answers = vec![(functions.fresh)(&list.table, &list.bias, &mut state)];
     let last = roll.last().map_or(0, ScanRecord::number);
     for record in roll {
         if last - record.number() < 8 {
@@ -453,13 +497,13 @@ pub fn run_through_states<F, G>(
     counters: &mut Counters,
 ) -> Result<Vec<StateOutcome>, String>
 where
-    F: Fn(&[u8], &mut [u8]) -> u8,
+    F: Fn(&[u8], &[u8], &mut [u8]) -> u8,
     G: Fn(&mut [u8], &[u8], &mut [u8]) -> u8,
 {
     let mut random = Random::new(seed);
-    let mut memory = random.bytes(2_660);
-    if (functions.fresh)(&list.table, &mut memory) != 0 {
-        return Err("no fresh state of an accepted table".to_string());
+    let mut memory = random.bytes(11_114);
+    if (functions.fresh)(&list.table, &list.bias, &mut memory) != 0 {
+        return Err("no fresh state of an accepted table and bias file".to_string());
     }
     let mut roll: Vec<ScanRecord> = Vec::new();
     let mut all = Vec::new();
@@ -474,7 +518,7 @@ where
             }
             2 => {
                 let more = random.below(500);
-                memory.truncate(2_660);
+                memory.truncate(11_114);
                 memory.extend(random.bytes(more));
                 "moved"
             }
@@ -483,8 +527,8 @@ where
                 "built from its values"
             }
             _ => {
-                let state = rebuilt(&list.table, &roll, functions)?;
-                if memory[..2_660] != state {
+                let state = rebuilt(list, &roll, functions)?;
+                if memory[..11_114] != state {
                     return Err(format!("feed {}: another state rebuilt", index + 1));
                 }
                 memory = state;
@@ -535,12 +579,12 @@ pub fn checked_state_run(
     };
     let states = run_through_states(list, seed, &functions, counters)?;
     same_run(&states, &outcomes(list))?;
-    let table = open(&list.table).expect("a list has an accepted table");
-    let mut calibrator = Calibrator::fresh(table);
+    let opened = Calibrator::of_files(&list.table, &list.bias);
+    let mut calibrator = opened.expect("a list has an accepted table and bias file");
     for (index, (feed, outcome)) in list.feeds.iter().zip(&states).enumerate() {
         let mut buffer = feed.buffer.clone();
         calibrator = calibrator.feed(&feed.record, &mut buffer).calibrator;
-        if outcome.state[..2_660] != state::write(&calibrator) {
+        if outcome.state[..11_114] != state::write(&calibrator) {
             return Err(format!("feed {}: not the state of the roll", index + 1));
         }
     }

@@ -9,9 +9,10 @@ use crate::second::product::LENGTH;
 use crate::second::record::ScanRecord;
 use crate::second::table::{open, CHANNELS};
 
-/// Whether two lists under one table are alike.
+/// Whether two lists under one table and one bias file are alike.
 pub fn are_alike(first: &FeedList, second: &FeedList) -> bool {
-    if first.table != second.table || first.feeds.len() != second.feeds.len() {
+    let same_files = first.table == second.table && first.bias == second.bias;
+    if !same_files || first.feeds.len() != second.feeds.len() {
         return false;
     }
     let table = open(&first.table).expect("a list has an accepted table");
@@ -90,19 +91,36 @@ pub fn checked_twin(
 #[cfg(test)]
 mod tests {
     use super::*;
+    use crate::generator::biases::{BiasValues, PairValues};
     use crate::generator::lists::Feed;
     use crate::generator::records::RecordValues;
     use crate::generator::tables::TableValues;
 
-    #[test]
-    fn lists_with_other_accepted_samples_are_not_alike() {
-        let feed = |record: &RecordValues| FeedList {
+    /// A list of one feed.
+    fn feed(record: &RecordValues) -> FeedList {
+        FeedList {
             table: TableValues::bench().encode(),
+            bias: BiasValues::zeros().encode(),
             feeds: vec![Feed {
                 record: record.encode(),
                 buffer: vec![0; LENGTH],
             }],
-        };
+        }
+    }
+
+    #[test]
+    fn lists_under_other_bias_files_are_not_alike() {
+        let first = feed(&RecordValues::bench());
+        let mut second = first.clone();
+        assert!(are_alike(&first, &second));
+        let mut bias = BiasValues::zeros();
+        bias.pairs[21][95] = PairValues { c0: 0, e: 1 };
+        second.bias = bias.encode();
+        assert!(!are_alike(&first, &second));
+    }
+
+    #[test]
+    fn lists_with_other_accepted_samples_are_not_alike() {
         let bench = RecordValues::bench();
         let mut fourth = bench.clone();
         fourth.warm[0][3] = 20_100;

@@ -2,7 +2,8 @@
 
 use super::lists::{feed_list, FeedList};
 use super::random::Random;
-use super::random_tables::table_bytes;
+use super::random_biases::{bias_bytes, refused_bias};
+use super::random_tables::{refused_table, table_bytes};
 use crate::second::station::LaidOut;
 
 /// A list laid out. The answers are filled with a number that no feed is answered with.
@@ -10,6 +11,7 @@ pub fn lay_out(list: &FeedList) -> LaidOut {
     let feeds = &list.feeds;
     LaidOut {
         table: list.table.clone(),
+        bias: list.bias.clone(),
         records: feeds.iter().flat_map(|feed| feed.record.clone()).collect(),
         record_lengths: feeds.iter().map(|feed| feed.record.len() as u32).collect(),
         buffers: feeds.iter().flat_map(|feed| feed.buffer.clone()).collect(),
@@ -39,7 +41,7 @@ fn change_one(random: &mut Random, lengths: &mut [u32]) {
 pub fn laid_out(seed: u64) -> LaidOut {
     let mut random = Random::new(seed);
     let mut list = lay_out(&feed_list(random.next()));
-    match random.below(12) {
+    match random.below(16) {
         0 => list.table = table_bytes(random.next()),
         1 => cut(&mut random, &mut list.table),
         2 => cut(&mut random, &mut list.records),
@@ -50,7 +52,15 @@ pub fn laid_out(seed: u64) -> LaidOut {
         7 => change_one(&mut random, &mut list.record_lengths),
         8 => change_one(&mut random, &mut list.buffer_lengths),
         9 => list.answers.extend(vec![77; random.below(4)]),
-        10 => {
+        10 => list.bias = bias_bytes(random.next()),
+        11 => cut(&mut random, &mut list.bias),
+        12 | 13 => {
+            // Both refused.
+            let numbers = [random.between(1, 3) as u8, random.between(1, 3) as u8];
+            list.table = refused_table(&mut random, numbers[0]);
+            list.bias = refused_bias(&mut random, numbers[1]);
+        }
+        14 => {
             list.records.extend(random.bytes(9));
             list.buffers.extend(random.bytes(9));
             list.record_lengths.push(9);

@@ -1,7 +1,9 @@
-//! Lists of feeds under one accepted table.
+//! Lists of feeds under one accepted table and one accepted bias file.
 
+use super::biases::BiasValues;
 use super::counts::{channel_counts, plan_channel, ChannelPlan};
 use super::random::Random;
+use super::random_biases::random_bias;
 use super::random_tables::random_table;
 use super::records::{record_neighbours, RecordValues};
 use super::scenes::earth_counts;
@@ -20,16 +22,28 @@ pub struct Feed {
     pub buffer: Vec<u8>,
 }
 
-/// A list of feeds to a fresh calibrator under an accepted table.
+/// A list of feeds to a fresh calibrator under an accepted table and an accepted bias file.
 #[derive(Clone, Debug)]
 pub struct FeedList {
     pub table: Vec<u8>,
+    pub bias: Vec<u8>,
     pub feeds: Vec<Feed>,
+}
+
+impl FeedList {
+    /// The same list under the bias file of zeros.
+    pub fn under_zeros(&self) -> FeedList {
+        FeedList {
+            bias: BiasValues::zeros().encode(),
+            ..self.clone()
+        }
+    }
 }
 
 /// What stays the same over a list.
 pub(super) struct Plan {
     pub(super) table: TableValues,
+    pub(super) bias: BiasValues,
     thermometers: ThermometerPlan,
     channels: Vec<ChannelPlan>,
     /// One feed in this many has a wrong record, a wrong number or a short buffer, each.
@@ -80,6 +94,7 @@ pub(super) fn plan(random: &mut Random) -> Plan {
     }
     Plan {
         table,
+        bias: random_bias(random),
         thermometers,
         channels,
         trouble: random.pick(&[1_000, 12, 4]),
@@ -232,6 +247,7 @@ pub fn feed_list(seed: u64) -> FeedList {
     }
     FeedList {
         table: table_bytes,
+        bias: plan.bias.encode(),
         feeds,
     }
 }

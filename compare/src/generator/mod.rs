@@ -18,6 +18,12 @@ pub mod table_neighbours;
 
 pub mod random_tables;
 
+pub mod biases;
+
+pub mod bias_neighbours;
+
+pub mod random_biases;
+
 pub mod records;
 
 pub mod thermometers;

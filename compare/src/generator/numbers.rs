@@ -1,6 +1,6 @@
 //! Edge inputs for the smallest parts: divisions, readers of numbers, fields and layouts.
 
-use super::layouts::{head_positions, PRODUCT, RECORD, TABLE};
+use super::layouts::{head_positions, BIAS, PRODUCT, RECORD, TABLE};
 use super::random::Random;
 
 /// A whole number of 64 bits near an end, near 0, near a power of two, or anywhere.
@@ -136,10 +136,11 @@ pub fn field_case(seed: u64) -> FieldCase {
 /// Bytes and a layout: right, wrong by one at one byte of a tag or length, or of another length.
 pub fn layout_case(seed: u64) -> (Vec<u8>, Vec<(u8, usize)>) {
     let mut random = Random::new(seed);
-    let layout = match random.below(4) {
+    let layout = match random.below(5) {
         0 => TABLE.to_vec(),
         1 => RECORD.to_vec(),
         2 => PRODUCT.to_vec(),
+        3 => BIAS.to_vec(),
         _ => (0..random.below(4))
             .map(|_| (random.next() as u8, random.below(300)))
             .collect(),

@@ -1,5 +1,6 @@
 //! Accepted tables at random, and bytes that may be a table.
 
+use super::layouts::{head_positions, TABLE};
 use super::neighbour::Neighbour;
 use super::random::Random;
 use super::table_neighbours::table_neighbours;
@@ -180,6 +181,12 @@ pub fn random_table(random: &mut Random) -> TableValues {
         channel.warm_bias = at_end_or_any(random, -4_096, 4_096) as i16;
         channel.rayleigh_jeans = at_end_or_any(random, 0, 16_384) as u16;
         channel.side_lobe = at_end_or_any(random, 0, 16_384) as u16;
+        if random.once_in(6) {
+            // Tc is 32,768: at x = 0 every odd e gives a half.
+            let rest = 32_768 - 11_166;
+            channel.rayleigh_jeans = random.between(rest - 16_384, 16_384) as u16;
+            channel.side_lobe = rest as u16 - channel.rayleigh_jeans;
+        }
         let any = at_end_or_any(random, -8_192, 8_192);
         // Twice an odd number: 3/4 and 5/4 of it are halves.
         let half = 2 * (2 * random.between(-2_000, 2_000) + 1);
@@ -235,6 +242,18 @@ pub fn table_bytes(seed: u64) -> Vec<u8> {
     }
 }
 
+/// An accepted table changed so that it is refused with this number, 1 to 3.
+pub fn refused_table(random: &mut Random, number: u8) -> Vec<u8> {
+    let mut bytes = random_table(random).encode();
+    match number {
+        1 => bytes.resize(random.pick(&[0, 740, 742]), 0),
+        2 => bytes[random.pick(&head_positions(&TABLE))] ^= 1,
+        // A percentage of 0.
+        _ => bytes[19] = 0,
+    }
+    bytes
+}
+
 /// Every neighbour of the bench table (seed 0) or of the accepted table of a seed.
 pub fn seed_neighbours(seed: u64) -> Vec<Neighbour> {
     let base = if seed == 0 {
@@ -254,6 +273,15 @@ mod tests {
         for seed in 0..2_000 {
             let opened = crate::second::table::open(&accepted_table(seed).encode());
             assert!(opened.is_ok(), "seed {seed}");
+        }
+    }
+
+    #[test]
+    fn refused_tables_are_refused_with_their_number() {
+        let mut random = Random::new(6);
+        for number in [1, 2, 3].repeat(50) {
+            let opened = crate::second::table::open(&refused_table(&mut random, number));
+            assert_eq!(opened.err(), Some(number));
         }
     }
 

@@ -1,13 +1,15 @@
 //! States: values with an encoder, every neighbour of a state, and feeds to states.
 
-use super::layouts::{head_positions, STATE, TABLE};
+use super::bias_neighbours::{bias_neighbours, C0_EDGES};
+use super::biases::BiasValues;
+use super::layouts::{head_positions, STATE};
 use super::lists::{
-    feed_list, first_number, next_number, plan, planned_bytes, random_buffer, Behind, FeedList,
-    Plan,
+    feed_list, first_number, next_number, plan, planned_bytes, random_buffer, Behind, Plan,
 };
 use super::neighbour::Neighbour;
 use super::random::Random;
-use super::random_tables::{accepted_table, table_bytes};
+use super::random_biases::{accepted_bias, base_bias, bias_bytes, refused_bias};
+use super::random_tables::{accepted_table, refused_table, table_bytes};
 use super::table_neighbours::table_neighbours;
 use super::tables::TableValues;
 use crate::second::calibrator::Calibrator;
@@ -72,6 +74,8 @@ impl KeptField {
 pub struct StateValues {
     /// 741 bytes.
     pub table: Vec<u8>,
+    /// 8,451 bytes.
+    pub bias: Vec<u8>,
     /// The first byte of 0x32.
     pub accepted: u8,
     pub number: u32,
@@ -81,9 +85,10 @@ pub struct StateValues {
 }
 
 impl StateValues {
-    pub fn fresh(table: Vec<u8>) -> StateValues {
+    pub fn fresh(table: Vec<u8>, bias: Vec<u8>) -> StateValues {
         StateValues {
             table,
+            bias,
             accepted: 0,
             number: 0,
             warm: [[0; 22]; 8],
@@ -95,7 +100,7 @@ impl StateValues {
     pub fn encode(&self) -> Vec<u8> {
         let mut bytes = vec![0x30, 0, 8];
         bytes.extend(*b"SNDR");
-        bytes.extend([0, 0, 0, 1]);
+        bytes.extend([0, 0, 0, 2]);
         bytes.extend([0x31, 0x02, 0xe5]);
         bytes.extend(&self.table);
         bytes.extend([0x32, 0, 5]);
@@ -113,6 +118,8 @@ impl StateValues {
         for number in self.thermometers.iter().flatten() {
             bytes.extend(number.to_be_bytes());
         }
+        bytes.extend([0x36, 0x21, 0x03]);
+        bytes.extend(&self.bias);
         bytes
     }
 
@@ -126,6 +133,7 @@ impl StateValues {
         };
         StateValues {
             table: bytes[14..755].to_vec(),
+            bias: bytes[2_663..11_114].to_vec(),
             accepted: bytes[758],
             number: u32_at(759),
             warm: sides(766),
@@ -154,8 +162,8 @@ pub struct StateFeed {
 }
 
 /// A state that no run needs to reach: any values in range at the ages that its number allows.
-fn made_up(random: &mut Random, table: Vec<u8>) -> StateValues {
-    let mut values = StateValues::fresh(table);
+fn made_up(random: &mut Random, table: Vec<u8>, bias: Vec<u8>) -> StateValues {
+    let mut values = StateValues::fresh(table, bias);
     if random.once_in(8) {
         return values;
     }
@@ -199,11 +207,11 @@ fn base_table(seed: u64) -> TableValues {
 
 /// A feed of a list to the state that the feeds before it left.
 fn reached(random: &mut Random) -> StateFeed {
-    let FeedList { table, mut feeds } = feed_list(random.next());
-    let last = feeds.pop().expect("a list has feeds");
-    let table = open(&table).expect("a list has an accepted table");
-    let mut calibrator = Calibrator::fresh(table);
-    for feed in feeds {
+    let mut list = feed_list(random.next());
+    let last = list.feeds.pop().expect("a list has feeds");
+    let opened = Calibrator::of_files(&list.table, &list.bias);
+    let mut calibrator = opened.expect("a list has an accepted table and bias file");
+    for feed in list.feeds {
         let mut buffer = feed.buffer;
         calibrator = calibrator.feed(&feed.record, &mut buffer).calibrator;
     }
@@ -240,7 +248,7 @@ fn start_of(values: &StateValues) -> Start {
 
 fn made_up_feed(random: &mut Random) -> StateFeed {
     let plan: Plan = plan(random);
-    let values = made_up(random, plan.table.encode());
+    let values = made_up(random, plan.table.encode(), plan.bias.encode());
     let table = open(&values.table).expect("a planned table is accepted");
     let number = match values.accepted {
         0 => first_number(random),
@@ -261,7 +269,7 @@ fn made_up_feed(random: &mut Random) -> StateFeed {
 /// A state with one change; some stay a state.
 fn changed(random: &mut Random, state: &[u8]) -> Vec<u8> {
     let mut bytes = state.to_vec();
-    match random.below(4) {
+    match random.below(5) {
         0 => {
             let position = random.below(bytes.len());
             bytes[position] = random.next() as u8;
@@ -278,6 +286,13 @@ fn changed(random: &mut Random, state: &[u8]) -> Vec<u8> {
             let (age, index) = (random.below(8), random.below(field.width()));
             values.set(field, age, index, number);
             bytes = values.encode();
+        }
+        3 => {
+            let any = random.below(2_112);
+            let pair = random.pick(&[0, 2_111, any]);
+            let (c0, _) = random.pick(&C0_EDGES);
+            let at = 2_666 + 4 * pair;
+            bytes[at..at + 2].copy_from_slice(&c0.to_be_bytes());
         }
         _ => {
             let mut values = StateValues::decode(&bytes);
@@ -306,32 +321,47 @@ pub fn state_feed(seed: u64) -> StateFeed {
         feed.state.extend(random.bytes(more));
     }
     if random.once_in(20) {
-        let any = random.below(2_660);
-        feed.state.truncate(random.pick(&[0, 2_659, any]));
+        let any = random.below(11_114);
+        let length = random.pick(&[0, 2_660, 11_113, 11_113, any]);
+        feed.state.truncate(length);
     }
     feed
 }
 
-/// A table, accepted or not, and memory for a state as it is before.
-pub fn fresh_input(seed: u64) -> (Vec<u8>, Vec<u8>) {
+/// What a fresh state is made of, and memory for it as it is before.
+#[derive(Clone, Debug)]
+pub struct FreshInput {
+    /// Accepted or not.
+    pub table: Vec<u8>,
+    /// Accepted or not.
+    pub bias: Vec<u8>,
+    pub memory: Vec<u8>,
+}
+
+pub fn fresh_input(seed: u64) -> FreshInput {
     let mut random = Random::new(seed);
-    let mut table = accepted_table(random.next()).encode();
-    match random.below(4) {
-        0 => {}
-        1 => {
-            let position = random.pick(&head_positions(&TABLE));
-            table[position] = table[position].wrapping_add(1);
-        }
-        _ => table = table_bytes(random.next()),
+    let table = match random.below(9) {
+        0..=3 => accepted_table(random.next()).encode(),
+        number @ 4..=6 => refused_table(&mut random, number as u8 - 3),
+        _ => table_bytes(random.next()),
+    };
+    let bias = match random.below(9) {
+        0..=3 => accepted_bias(random.next()).encode(),
+        number @ 4..=6 => refused_bias(&mut random, number as u8 - 3),
+        _ => bias_bytes(random.next()),
+    };
+    let any = random.below(24_000);
+    let length = random.pick(&[0, 2_660, 11_113, 11_114, 11_114, 11_114, 11_115, any]);
+    FreshInput {
+        table,
+        bias,
+        memory: random.bytes(length),
     }
-    let any = random.below(6_000);
-    let length = random.pick(&[0, 2_659, 2_660, 2_660, 2_661, any]);
-    (table, random.bytes(length))
 }
 
 /// A made-up state with number 7 or more and values at every age.
-fn full_state(random: &mut Random, table: &TableValues) -> StateValues {
-    let mut values = StateValues::fresh(table.encode());
+fn full_state(random: &mut Random, table: &TableValues, bias: &BiasValues) -> StateValues {
+    let mut values = StateValues::fresh(table.encode(), bias.encode());
     let any = random.between(7, u32::MAX as i64) as u32;
     values.accepted = 1;
     values.number = random.pick(&[7, any, u32::MAX]);
@@ -347,14 +377,15 @@ fn full_state(random: &mut Random, table: &TableValues) -> StateValues {
 }
 
 /// Every neighbour of a state: each byte of a tag, a length, the magic number or the version wrong by
-/// one, neighbours of its table, the first byte and the number of 0x32, a value at each age with
-/// each number from 0 to 8 and with no scan, each value at the ends of its range and beside them, and
-/// other lengths. The planned answer is 254 or, for a state, 0.
+/// one, neighbours of its table and of its bias file, the first byte and the number of 0x32, a value at
+/// each age with each number from 0 to 8 and with no scan, each value at the ends of its range and beside
+/// them, and other lengths. The planned answer is 254 or, for a state, 0.
 pub fn state_neighbours(seed: u64) -> Vec<Neighbour> {
     let mut random = Random::new(seed);
     let table = base_table(seed);
-    let base = full_state(&mut random, &table);
-    let fresh = StateValues::fresh(table.encode());
+    let bias = base_bias(seed);
+    let base = full_state(&mut random, &table, &bias);
+    let fresh = StateValues::fresh(table.encode(), bias.encode());
     let mut all = Vec::new();
     let mut push = |description: String, bytes: Vec<u8>, is_state: bool| {
         all.push(Neighbour {
@@ -375,10 +406,11 @@ pub fn state_neighbours(seed: u64) -> Vec<Neighbour> {
         }
     }
     for front in [
-        *b"RDNS\0\0\0\x01",
+        *b"RDNS\0\0\0\x02",
         *b"SNDR\0\0\0\0",
-        *b"SNDR\0\0\0\x02",
-        *b"SNDR\x01\0\0\0",
+        *b"SNDR\0\0\0\x01",
+        *b"SNDR\0\0\0\x03",
+        *b"SNDR\x02\0\0\0",
     ] {
         let mut bytes = right.clone();
         bytes[3..11].copy_from_slice(&front);
@@ -391,6 +423,14 @@ pub fn state_neighbours(seed: u64) -> Vec<Neighbour> {
             let mut bytes = right.clone();
             bytes[14..755].copy_from_slice(&neighbour.bytes);
             let about = format!("its table: {}", neighbour.description);
+            push(about, bytes, neighbour.answer == 0);
+        }
+    }
+    for neighbour in bias_neighbours(&bias) {
+        if neighbour.bytes.len() == 8_451 && (seed == 0 || random.once_in(6)) {
+            let mut bytes = right.clone();
+            bytes[2_663..].copy_from_slice(&neighbour.bytes);
+            let about = format!("its bias file: {}", neighbour.description);
             push(about, bytes, neighbour.answer == 0);
         }
     }
@@ -444,10 +484,14 @@ pub fn state_neighbours(seed: u64) -> Vec<Neighbour> {
         }
     }
 
-    for length in [0, 1, 755, 2_180, 2_659] {
+    for length in [0, 1, 755, 2_180, 2_659, 2_660, 2_663, 11_110, 11_113] {
         push(format!("length {length}"), right[..length].to_vec(), false);
     }
-    for more in [1, 2, 2_660] {
+    // The first six fields alone, with version 1.
+    let mut six_fields = right[..2_660].to_vec();
+    six_fields[10] = 1;
+    push("six fields, version 1".to_string(), six_fields, false);
+    for more in [1, 2, 11_114] {
         let bytes = [&right[..], &random.bytes(more)].concat();
         push(format!("length {}", bytes.len()), bytes, true);
     }
@@ -455,7 +499,7 @@ pub fn state_neighbours(seed: u64) -> Vec<Neighbour> {
 }
 
 /// A state that a run reached with each byte changed, one at a time.
-pub fn changed_bytes(seed: u64) -> Vec<Vec<u8>> {
+pub fn changed_bytes(seed: u64) -> impl Iterator<Item = Vec<u8>> {
     let mut random = Random::new(seed);
     let state = loop {
         let state = reached(&mut random).state;
@@ -464,26 +508,29 @@ pub fn changed_bytes(seed: u64) -> Vec<Vec<u8>> {
             break state;
         }
     };
-    let mut all = Vec::new();
-    for position in 0..state.len() {
+    (0..state.len()).map(move |position| {
         let any = random.between(1, 255) as u8;
         let mut bytes = state.clone();
         bytes[position] = bytes[position].wrapping_add(random.pick(&[1, 128, 255, any]));
-        all.push(bytes);
-    }
-    all
+        bytes
+    })
 }
 
 #[cfg(test)]
 mod tests {
     use super::*;
 
+    fn some_state(random: &mut Random) -> Vec<u8> {
+        let bias = accepted_bias(random.next()).encode();
+        made_up(random, TableValues::bench().encode(), bias).encode()
+    }
+
     #[test]
     fn values_are_decoded_as_they_were_encoded() {
         let mut random = Random::new(3);
         for _ in 0..20 {
-            let bytes = made_up(&mut random, TableValues::bench().encode()).encode();
-            assert_eq!(bytes.len(), 2_660);
+            let bytes = some_state(&mut random);
+            assert_eq!(bytes.len(), 11_114);
             assert_eq!(StateValues::decode(&bytes).encode(), bytes);
         }
     }
@@ -492,8 +539,7 @@ mod tests {
     fn made_up_states_are_states() {
         let mut random = Random::new(4);
         for _ in 0..200 {
-            let bytes = made_up(&mut random, TableValues::bench().encode()).encode();
-            assert!(read(&bytes).is_some());
+            assert!(read(&some_state(&mut random)).is_some());
         }
     }
 

@@ -5,10 +5,11 @@ use super::random::Random;
 use crate::second::product::LENGTH;
 use crate::second::table::open;
 
-/// Records of 4,629 bytes each, and the table they are planned for.
+/// Records of 4,629 bytes each, the table they are planned for, and a bias file.
 #[derive(Clone, Debug)]
 pub struct RecordStream {
     pub table: Vec<u8>,
+    pub bias: Vec<u8>,
     pub records: Vec<Vec<u8>>,
 }
 
@@ -58,6 +59,7 @@ pub fn record_stream(seed: u64) -> RecordStream {
     }
     RecordStream {
         table: table_bytes,
+        bias: plan.bias.encode(),
         records,
     }
 }

@@ -132,6 +132,7 @@ pub fn alike_twin(list: &FeedList, seed: u64) -> FeedList {
     }
     FeedList {
         table: list.table.clone(),
+        bias: list.bias.clone(),
         feeds,
     }
 }

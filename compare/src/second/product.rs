@@ -1,8 +1,9 @@
 //! The product, 8,706 bytes.
 
+use super::bias::Bias;
 use super::bytes::{u16_at, u32_at, value};
 use super::record::{ScanRecord, SCENES};
-use super::scene::{scene, Scene};
+use super::scene::{scene, scene_without_bias, temperature, Scene};
 use super::table::{Table, CHANNELS};
 use super::window::{channel_sums, flag, WindowScan};
 
@@ -39,18 +40,38 @@ pub fn summary(scenes: &[Scene]) -> Summary {
     summary
 }
 
-/// The product of the current record, which is in the window.
-pub fn product(table: &Table, current: &ScanRecord, window: &[WindowScan]) -> Vec<u8> {
+/// The flag of a channel, and T or the mark of each of its scenes.
+fn channel_temperatures(
+    table: &Table,
+    current: &ScanRecord,
+    window: &[WindowScan],
+    channel: usize,
+) -> (u8, Vec<Result<i128, Scene>>) {
+    let sums = channel_sums(table, window, channel);
+    let flag = flag(table, channel, &sums);
+    let counts = current.earth_counts(channel);
+    let temperatures = counts
+        .iter()
+        .map(|count| temperature(table, channel, &sums, flag, *count));
+    (flag, temperatures.collect())
+}
+
+/// The product of the current record, which is in the window. `scene_at` makes the scene of a T or mark,
+/// given its channel and position.
+fn product_of(
+    table: &Table,
+    current: &ScanRecord,
+    window: &[WindowScan],
+    scene_at: impl Fn(Result<i128, Scene>, usize, usize) -> Scene,
+) -> Vec<u8> {
     let mut flags = Vec::new();
     let mut scene_bytes = Vec::new();
     let mut summary_bytes = Vec::new();
     for channel in 0..CHANNELS {
-        let sums = channel_sums(table, window, channel);
-        let flag = flag(table, channel, &sums);
-        let scenes: Vec<Scene> = current
-            .earth_counts(channel)
-            .iter()
-            .map(|count| scene(table, channel, &sums, flag, *count))
+        let (flag, temperatures) = channel_temperatures(table, current, window, channel);
+        let places = temperatures.into_iter().enumerate();
+        let scenes: Vec<Scene> = places
+            .map(|(position, temperature)| scene_at(temperature, channel, position))
             .collect();
         flags.push(flag);
         for scene in &scenes {
@@ -74,6 +95,20 @@ pub fn product(table: &Table, current: &ScanRecord, window: &[WindowScan]) -> Ve
         bytes.extend(value);
     }
     bytes
+}
+
+/// The product of the current record, which is in the window.
+pub fn product(table: &Table, bias: &Bias, current: &ScanRecord, window: &[WindowScan]) -> Vec<u8> {
+    product_of(table, current, window, |temperature, channel, position| {
+        scene(temperature, bias.pair(channel, position))
+    })
+}
+
+/// The product by the rules without scan bias: each delivered scene is T / 4096 kelvin.
+pub fn product_without_bias(table: &Table, current: &ScanRecord, window: &[WindowScan]) -> Vec<u8> {
+    product_of(table, current, window, |temperature, _, _| {
+        scene_without_bias(temperature)
+    })
 }
 
 // Reading a product, for the listing and the checks.
@@ -104,16 +139,36 @@ pub fn summary_of(product: &[u8], channel: usize) -> Summary {
 #[cfg(test)]
 mod tests {
     use super::*;
+    use crate::generator::biases::{BiasValues, PairValues};
+    use crate::generator::random::Random;
+    use crate::generator::random_biases::any_bias;
     use crate::generator::records::RecordValues;
     use crate::generator::tables::TableValues;
+    use crate::second::bias::open_bias;
     use crate::second::bytes::{layout_is_right, layout_length};
     use crate::second::table::open;
     use crate::second::window::window;
 
-    fn bench_product(record: &RecordValues) -> Vec<u8> {
+    fn product_with(bias: &BiasValues, record: &RecordValues) -> Vec<u8> {
         let table = open(&TableValues::bench().encode()).unwrap();
+        let bias = open_bias(&bias.encode()).unwrap();
         let record = ScanRecord::read(&record.encode()).unwrap();
-        product(&table, &record, &window(&table, &[record.clone()]))
+        product(&table, &bias, &record, &window(&table, &[record.clone()]))
+    }
+
+    fn bench_product(record: &RecordValues) -> Vec<u8> {
+        product_with(&BiasValues::zeros(), record)
+    }
+
+    /// The bench scan with a channel outside, one with marks among its scenes and one with a flag.
+    fn varied_record() -> RecordValues {
+        let mut record = RecordValues::bench();
+        record.earth[1] = [9_999; SCENES];
+        record.earth[2][0] = 10_000;
+        record.earth[2][95] = 22_500;
+        record.earth[2][50] = 22_501;
+        record.cold[3] = [20_000; 4];
+        record
     }
 
     #[test]
@@ -140,13 +195,7 @@ mod tests {
 
     #[test]
     fn every_scene_stands_in_its_place_and_the_summary_follows() {
-        let mut record = RecordValues::bench();
-        record.earth[1] = [9_999; SCENES];
-        record.earth[2][0] = 10_000;
-        record.earth[2][95] = 22_500;
-        record.earth[2][50] = 22_501;
-        record.cold[3] = [20_000; 4];
-        let product = bench_product(&record);
+        let product = bench_product(&varied_record());
         assert_eq!(flag_of(&product, 3), 2);
         assert_eq!(flag_of(&product, 2), 0);
         assert_eq!(number_of(&product), 7);
@@ -170,5 +219,67 @@ mod tests {
             highest: 1_395_236.0 / 4096.0,
         };
         assert_eq!(summary_of(&product, 2), some);
+    }
+
+    #[test]
+    fn a_bias_file_of_zeros_gives_the_product_without_bias() {
+        let table = open(&TableValues::bench().encode()).unwrap();
+        for values in [RecordValues::bench(), varied_record()] {
+            let record = ScanRecord::read(&values.encode()).unwrap();
+            let window = window(&table, &[record.clone()]);
+            let without = product_without_bias(&table, &record, &window);
+            assert_eq!(bench_product(&values), without);
+        }
+    }
+
+    #[test]
+    fn flags_marks_and_counts_do_not_depend_on_the_bias_file() {
+        let record = varied_record();
+        let without = bench_product(&record);
+        let with = product_with(&any_bias(&mut Random::new(1)), &record);
+        assert_eq!(with[..35], without[..35]);
+        for channel in 0..CHANNELS {
+            let count = |product: &[u8]| summary_of(product, channel).delivered;
+            assert_eq!(count(&with), count(&without));
+            for place in 0..SCENES {
+                let (one, other) = (
+                    scene_of(&with, channel, place),
+                    scene_of(&without, channel, place),
+                );
+                assert_eq!(one < 0.0, other < 0.0);
+                assert!(other > 0.0 || one == other, "marks have no bias");
+            }
+        }
+    }
+
+    #[test]
+    fn each_scene_takes_its_own_pair_and_the_summary_follows() {
+        let mut bias = BiasValues::zeros();
+        bias.pairs[2][1] = PairValues {
+            c0: -4_096,
+            e: -32_768,
+        };
+        bias.pairs[2][94] = PairValues { c0: 1, e: 32_767 };
+        // The last scene is the warmest before scan bias, and no longer after it.
+        bias.pairs[2][95] = PairValues { c0: 0, e: -32_768 };
+        // A mark stays.
+        bias.pairs[2][50] = PairValues { c0: 7, e: 7 };
+        let product = product_with(&bias, &varied_record());
+        let units = |place: usize| scene_of(&product, 2, place) * 4096.0;
+        // T is 11,166 at 0, 565,394 between, 1,395,236 at 95.
+        assert_eq!(units(0), 11_166.0);
+        assert_eq!(units(1), 278_601.0);
+        assert_eq!(units(94), 848_083.0);
+        assert_eq!(units(95), 697_618.0);
+        assert_eq!(scene_of(&product, 2, 50), -2.0);
+        let summary = summary_of(&product, 2);
+        assert_eq!(summary.delivered, 95);
+        assert_eq!(summary.lowest * 4096.0, 11_166.0);
+        assert_eq!(summary.highest * 4096.0, 848_083.0);
+        // The other channels are as without it.
+        let without = bench_product(&varied_record());
+        assert_eq!(product[..35 + 2 * 384], without[..35 + 2 * 384]);
+        assert_eq!(product[35 + 3 * 384..8_506], without[35 + 3 * 384..8_506]);
+        assert_eq!(product[8_516..], without[8_516..]);
     }
 }

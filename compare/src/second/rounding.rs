@@ -24,9 +24,9 @@ pub struct Fraction {
 
 impl Fraction {
     /// Whether `whole` differs from the fraction by at most `distance`.
-    pub fn is_within(&self, distance: i128, whole: i128) -> bool {
+    pub fn is_within(&self, distance: Fraction, whole: i128) -> bool {
         let difference = whole * self.denominator - self.numerator;
-        difference.abs() <= distance * self.denominator
+        difference.abs() * distance.denominator <= distance.numerator * self.denominator
     }
 }
 
@@ -84,9 +84,17 @@ mod tests {
             numerator: 7,
             denominator: 3,
         };
-        assert!(third.is_within(2, 1));
-        assert!(third.is_within(2, 4));
-        assert!(!third.is_within(2, 0));
-        assert!(!third.is_within(2, 5));
+        let halves = |numerator: i128| Fraction {
+            numerator,
+            denominator: 2,
+        };
+        assert!(third.is_within(halves(4), 1));
+        assert!(third.is_within(halves(4), 4));
+        assert!(!third.is_within(halves(4), 0));
+        assert!(!third.is_within(halves(4), 5));
+        assert!(third.is_within(halves(7), 5));
+        assert!(third.is_within(halves(7), -1));
+        assert!(!third.is_within(halves(7), 6));
+        assert!(!third.is_within(halves(7), -2));
     }
 }

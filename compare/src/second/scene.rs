@@ -1,5 +1,6 @@
-//! Scenes: from an earth count to a brightness temperature or a mark.
+//! Scenes and scan bias: from an earth count to a brightness temperature or a mark.
 
+use super::bias::Pair;
 use super::rounding::{r, Fraction};
 use super::table::Table;
 use super::window::{cold_temperature, unrounded_warm_temperature, warm_temperature, ChannelSums};
@@ -60,20 +61,21 @@ pub fn brightness_temperature(
 /// Whether T is below 1 or above 16,777,215.
 ///
 /// No accepted table reaches this. t is from -245,760 to 245,760 and b from -4,096 to 4,096, so
-/// Tw is from 868,966 to 1,368,678; Tc is from 11,166 to 43,934. Where x is at most 1, the
-/// nonlinear term is at least -8,192, so T is at least 11,166 - 8,192 = 2,974; where x is above 1,
-/// the linear term is at least 825,032 and the nonlinear one at least -10,240. T is at most
-/// 43,934 + 1.25 × 1,357,512 + 10,240, below 2,000,000.
+/// Tw is from 868,966 to 1,368,678; Tc is from 11,166 to 43,934. T is at least Tc: where X is 0, the
+/// nonlinear term is 0; else x is at least 1 / 131,072, the linear term at least 825,032 x - 1/2 and
+/// the nonlinear one at least -X / 2 - 1/2, with X at most 65,536 x + 1/2. T is at most
+/// 43,934 + 1.25 × 1,357,512 + 10,240 = 1,751,064.
 pub fn guard_fails(temperature: i128) -> bool {
     temperature < 1 || temperature > 16_777_215
 }
 
-/// The f32 exactly equal to T / 4096, for T from 1 to 16,777,215.
+/// The f32 exactly equal to B / 4096, for B from 1 to 16,777,215.
 ///
-/// A whole number below 2^24 is an f32, and so is its product with a power of two.
-pub fn kelvin(temperature: i128) -> f32 {
-    assert!(!guard_fails(temperature));
-    temperature as f32 * (1.0 / 4096.0)
+/// A whole number below 2^24 is an f32, and so is its product with a power of two. With T from 11,166
+/// to 1,751,064 (see `guard_fails`) B is at least 11,166 / 2 - 4,096 = 1,487 and below 2,700,000.
+pub fn kelvin(biased: i128) -> f32 {
+    assert!(1 <= biased && biased <= 16_777_215);
+    biased as f32 * (1.0 / 4096.0)
 }
 
 /// E for a scene not outside in a channel with flag 0, with both denominators above 0.
@@ -109,17 +111,23 @@ pub fn exact_scene(table: &Table, channel: usize, sums: &ChannelSums, count: u16
     )
 }
 
-/// The scene of an earth count in a channel with this flag.
+/// T of an earth count in a channel with this flag, before scan bias, or its mark.
 ///
 /// With flag 0 no sum below a fraction bar is 0: percentages and full sums are at least 1.
-pub fn scene(table: &Table, channel: usize, sums: &ChannelSums, flag: u8, count: u16) -> Scene {
+pub fn temperature(
+    table: &Table,
+    channel: usize,
+    sums: &ChannelSums,
+    flag: u8,
+    count: u16,
+) -> Result<i128, Scene> {
     if flag != 0 {
-        return Scene::FlaggedChannel;
+        return Err(Scene::FlaggedChannel);
     }
     let n = numerator(sums, count);
     let d = sums.difference();
     if is_outside(n, d) {
-        return Scene::Outside;
+        return Err(Scene::Outside);
     }
     let temperature = brightness_temperature(
         warm_temperature(table, channel, sums),
@@ -129,25 +137,56 @@ pub fn scene(table: &Table, channel: usize, sums: &ChannelSums, flag: u8, count:
         d,
     );
     if guard_fails(temperature) {
-        return Scene::Guard;
+        return Err(Scene::Guard);
     }
-    Scene::Kelvin(kelvin(temperature))
+    Ok(temperature)
+}
+
+/// The scene of a T or mark: T with its scan bias, a mark as it is.
+pub fn scene(temperature: Result<i128, Scene>, pair: Pair) -> Scene {
+    match temperature {
+        Ok(temperature) => Scene::Kelvin(kelvin(pair.biased(temperature))),
+        Err(mark) => mark,
+    }
+}
+
+/// The scene by the rules without scan bias.
+pub fn scene_without_bias(temperature: Result<i128, Scene>) -> Scene {
+    match temperature {
+        Ok(temperature) => Scene::Kelvin(kelvin(temperature)),
+        Err(mark) => mark,
+    }
 }
 
 #[cfg(test)]
 mod tests {
     use super::*;
+    use crate::generator::biases::BiasValues;
     use crate::generator::records::RecordValues;
     use crate::generator::tables::TableValues;
+    use crate::second::bias::open_bias;
     use crate::second::record::ScanRecord;
     use crate::second::table::open;
     use crate::second::window::{channel_sums, window, SideSums, ThermometerSums};
 
-    fn bench_scene(count: u16) -> Scene {
+    /// The bench table, and the sums of a channel after the bench scan.
+    fn bench() -> (Table, ChannelSums) {
         let table = open(&TableValues::bench().encode()).unwrap();
         let record = ScanRecord::read(&RecordValues::bench().encode()).unwrap();
         let sums = channel_sums(&table, &window(&table, &[record]), 3);
-        scene(&table, 3, &sums, 0, count)
+        (table, sums)
+    }
+
+    /// T or the mark of a count of the bench scan.
+    fn bench_temperature(count: u16) -> Result<i128, Scene> {
+        let (table, sums) = bench();
+        temperature(&table, 3, &sums, 0, count)
+    }
+
+    /// The scene of a count of the bench scan under the bench bias file.
+    fn bench_scene(count: u16) -> Scene {
+        let bias = open_bias(&BiasValues::zeros().encode()).unwrap();
+        scene(bench_temperature(count), bias.pair(3, 0))
     }
 
     fn units(temperature: i128) -> Scene {
@@ -185,6 +224,35 @@ mod tests {
     }
 
     #[test]
+    fn a_bias_of_zeros_gives_the_scene_without_bias() {
+        let (table, sums) = bench();
+        let none = Pair { c0: 0, e: 0 };
+        for count in 9_000..23_000 {
+            let temperature = temperature(&table, 3, &sums, 0, count);
+            let without = scene_without_bias(temperature);
+            assert_eq!(scene(temperature, none), without, "{count}");
+        }
+    }
+
+    #[test]
+    fn scan_bias_moves_temperatures_and_leaves_marks() {
+        let pair = Pair {
+            c0: 4_096,
+            e: -32_768,
+        };
+        assert_eq!(scene(Ok(565_395), pair), units(286_794));
+        for mark in [Scene::FlaggedChannel, Scene::Outside, Scene::Guard] {
+            assert_eq!(scene(Err(mark), pair), mark);
+        }
+        // The guard looks at T alone: B of the bench scan's coldest scene is far below T.
+        let lowest = Pair {
+            c0: -4_096,
+            e: -32_768,
+        };
+        assert_eq!(scene(bench_temperature(10_000), lowest), units(1_487));
+    }
+
+    #[test]
     fn flagged_comes_before_outside() {
         let table = open(&TableValues::bench().encode()).unwrap();
         let sums = ChannelSums {
@@ -202,7 +270,8 @@ mod tests {
             },
         };
         for flag in 1..=4 {
-            assert_eq!(scene(&table, 0, &sums, flag, 0), Scene::FlaggedChannel);
+            let mark = temperature(&table, 0, &sums, flag, 0);
+            assert_eq!(mark, Err(Scene::FlaggedChannel));
         }
     }
 
@@ -229,10 +298,10 @@ mod tests {
     }
 
     #[test]
-    fn the_f32_is_exactly_t_over_4096() {
-        for temperature in [1, 2, 4_095, 4_096, 565_394, 8_388_609, 16_777_215] {
+    fn the_f32_is_exactly_b_over_4096() {
+        for biased in [1, 2, 1_487, 4_095, 4_096, 565_394, 8_388_609, 16_777_215] {
             // An f64 holds both exactly.
-            assert_eq!(kelvin(temperature) as f64 * 4096.0, temperature as f64);
+            assert_eq!(kelvin(biased) as f64 * 4096.0, biased as f64);
         }
     }
 
@@ -253,7 +322,7 @@ mod tests {
         let table = open(&values.encode()).unwrap();
         let record = ScanRecord::read(&RecordValues::bench().encode()).unwrap();
         let sums = channel_sums(&table, &window(&table, &[record]), 3);
-        assert_eq!(scene(&table, 3, &sums, 0, 10_028), units(14_359));
+        assert_eq!(temperature(&table, 3, &sums, 0, 10_028), Ok(14_359));
 
         let (n, d) = (numerator(&sums, 10_028), sums.difference());
         let (warm, cold) = (1_118_822, 11_166);
@@ -272,5 +341,27 @@ mod tests {
         };
         let e = exact_temperature(warm, 20_000, 6, 1, 4);
         assert_eq!(e.numerator * 1_000, e.denominator * 140_004_625);
+    }
+
+    #[test]
+    fn a_delivered_temperature_is_within_7_halves_of_equation_30() {
+        let (table, sums) = bench();
+        let distance = Fraction {
+            numerator: 7,
+            denominator: 2,
+        };
+        for (c0, e) in [(0, 0), (-4_096, -32_768), (4_096, 32_767), (5, 16_384)] {
+            let pair = Pair { c0, e };
+            for count in (10_000..=22_500).step_by(13) {
+                let exact = pair.exact(exact_scene(&table, 3, &sums, count));
+                let t = temperature(&table, 3, &sums, 0, count).unwrap();
+                assert!(
+                    exact.is_within(distance, pair.biased(t)),
+                    "{count} {pair:?}"
+                );
+                assert!(!exact.is_within(distance, pair.biased(t) + 8));
+                assert!(!exact.is_within(distance, pair.biased(t) - 8));
+            }
+        }
     }
 }

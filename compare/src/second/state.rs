@@ -1,26 +1,28 @@
-//! The state, 2,660 bytes: a calibrator as bytes, and the C functions that take one.
+//! The state, 11,114 bytes: a calibrator as bytes, and the C functions that take one.
 
+use super::bias::open_bias;
 use super::bytes::{layout_is_right, u32_at, value};
 use super::calibrator::Calibrator;
 use super::table::{open, AGES, CHANNELS, THERMOMETERS};
 use super::thermometer::{inside, HIGHEST_T, KELVIN_OF_ZERO_CELSIUS, LOWEST_T};
 use super::window::{KeptScan, Start};
 
-pub const LENGTH: usize = 2_660;
+pub const LENGTH: usize = 11_114;
 
-pub const LAYOUT: [(u8, usize); 6] = [
+pub const LAYOUT: [(u8, usize); 7] = [
     (0x30, 8),
     (0x31, 741),
     (0x32, 5),
     (0x33, 704),
     (0x34, 704),
     (0x35, 480),
+    (0x36, 8_451),
 ];
 
 /// `SNDR` in ASCII.
 pub const MAGIC: u32 = 0x534e_4452;
 
-pub const VERSION: u32 = 1;
+pub const VERSION: u32 = 2;
 
 /// The answer where bytes are no state, or where a state has no room.
 pub const NO_STATE: u8 = 254;
@@ -75,8 +77,9 @@ pub fn write(calibrator: &Calibrator) -> Vec<u8> {
         }
     }
     let table = calibrator.table().bytes.clone();
+    let bias = calibrator.bias().bytes.clone();
     let mut bytes = Vec::new();
-    for (index, value) in [front, table, last, warm, cold, thermometers]
+    for (index, value) in [front, table, last, warm, cold, thermometers, bias]
         .into_iter()
         .enumerate()
     {
@@ -140,6 +143,7 @@ pub fn read(bytes: &[u8]) -> Option<Calibrator> {
     }
     // 4.
     let table = open(value(bytes, &LAYOUT, 1)).ok()?;
+    let bias = open_bias(value(bytes, &LAYOUT, 6)).ok()?;
     // 5 and 6.
     let number = u32_at(value(bytes, &LAYOUT, 2), 1);
     let last = match (value(bytes, &LAYOUT, 2)[0], number) {
@@ -162,7 +166,7 @@ pub fn read(bytes: &[u8]) -> Option<Calibrator> {
             None => return None,
         }
     }
-    Some(Calibrator::since(table, Start { last, scans }))
+    Some(Calibrator::since(table, bias, Start { last, scans }))
 }
 
 /// The C function sounder_state_size.
@@ -170,16 +174,17 @@ pub fn state_size() -> usize {
     LENGTH
 }
 
-/// The C function sounder_fresh: 1 to 3 of the table, then 254 without room, else 0. Only 0 writes.
-pub fn fresh(table: &[u8], state: &mut [u8]) -> u8 {
-    let table = match open(table) {
-        Ok(table) => table,
+/// The C function sounder_fresh: 1 to 3 of the table, then 1 to 3 of the bias file, then 254 without room,
+/// else 0. Only 0 writes.
+pub fn fresh(table: &[u8], bias: &[u8], state: &mut [u8]) -> u8 {
+    let calibrator = match Calibrator::of_files(table, bias) {
+        Ok(calibrator) => calibrator,
         Err(number) => return number,
     };
     if state.len() < LENGTH {
         return NO_STATE;
     }
-    state[..LENGTH].copy_from_slice(&write(&Calibrator::fresh(table)));
+    state[..LENGTH].copy_from_slice(&write(&calibrator));
     0
 }
 
@@ -201,15 +206,23 @@ pub fn feed(state: &mut [u8], record: &[u8], buffer: &mut [u8]) -> u8 {
 #[cfg(test)]
 mod tests {
     use super::*;
+    use crate::generator::biases::BiasValues;
+    use crate::generator::random::Random;
+    use crate::generator::random_biases::any_bias;
     use crate::generator::records::RecordValues;
     use crate::generator::tables::TableValues;
     use crate::second::bytes::layout_length;
     use crate::second::product;
 
-    fn fresh_bench() -> Vec<u8> {
+    fn fresh_under(bias: &BiasValues) -> Vec<u8> {
         let mut state = vec![9; LENGTH];
-        assert_eq!(fresh(&TableValues::bench().encode(), &mut state), 0);
+        let table = TableValues::bench().encode();
+        assert_eq!(fresh(&table, &bias.encode(), &mut state), 0);
         state
+    }
+
+    fn fresh_bench() -> Vec<u8> {
+        fresh_under(&BiasValues::zeros())
     }
 
     fn numbered(number: u32) -> Vec<u8> {
@@ -232,12 +245,12 @@ mod tests {
     }
 
     #[test]
-    fn a_state_has_2_660_bytes_in_six_fields() {
+    fn a_state_has_11_114_bytes_in_seven_fields() {
         assert_eq!(layout_length(&LAYOUT), LENGTH);
         assert_eq!(state_size(), LENGTH);
         let state = fresh_bench();
         assert!(layout_is_right(&state, &LAYOUT));
-        assert_eq!(state[..11], *b"\x30\0\x08SNDR\0\0\0\x01");
+        assert_eq!(state[..11], *b"\x30\0\x08SNDR\0\0\0\x02");
         assert_eq!(state[11..14], [0x31, 0x02, 0xe5]);
         assert_eq!(state[14..755], TableValues::bench().encode());
         assert_eq!(state[755..758], [0x32, 0, 5]);
@@ -247,7 +260,9 @@ mod tests {
         assert_eq!(state[1_470..1_473], [0x34, 0x02, 0xc0]);
         assert_eq!(state[1_473..2_177], [0; 704]);
         assert_eq!(state[2_177..2_180], [0x35, 0x01, 0xe0]);
-        assert_eq!(state[2_180..], [0; 480]);
+        assert_eq!(state[2_180..2_660], [0; 480]);
+        assert_eq!(state[2_660..2_663], [0x36, 0x21, 0x03]);
+        assert_eq!(state[2_663..], BiasValues::zeros().encode());
     }
 
     #[test]
@@ -260,6 +275,52 @@ mod tests {
         expected[1_473..1_561].copy_from_slice(&[0, 1, 0xd4, 0xc1].repeat(22));
         expected[2_180..2_240].copy_from_slice(&[0, 0x11, 0x12, 0x66].repeat(15));
         assert_eq!(state, expected);
+    }
+
+    #[test]
+    fn a_state_keeps_its_bias_file_and_feeds_with_it() {
+        let bias = any_bias(&mut Random::new(3));
+        let mut state = fresh_under(&bias);
+        assert_eq!(state[2_663..], bias.encode());
+        let mut calibrator =
+            Calibrator::of_files(&TableValues::bench().encode(), &bias.encode()).unwrap();
+        for number in [7, 8, 10] {
+            let mut buffers = [vec![0; product::LENGTH], vec![0; product::LENGTH]];
+            assert_eq!(feed(&mut state, &numbered(number), &mut buffers[0]), 0);
+            calibrator = calibrator
+                .feed(&numbered(number), &mut buffers[1])
+                .calibrator;
+            assert_eq!(buffers[0], buffers[1]);
+            assert_eq!(state, write(&calibrator));
+            assert_eq!(state[2_663..], bias.encode());
+        }
+    }
+
+    #[test]
+    fn a_bias_file_in_a_state_is_opened_again() {
+        let answer = |change: &dyn Fn(&mut Vec<u8>)| {
+            let mut state = fresh_bench();
+            change(&mut state);
+            feed(&mut state, &[], &mut [])
+        };
+        // An empty record is refused with 4 where the bytes are a state.
+        assert_eq!(answer(&|_| {}), 4);
+        for at in 2_660..2_666 {
+            assert_eq!(answer(&|state| state[at] ^= 1), 254, "byte {at}");
+        }
+        for at in [2_666, 11_110] {
+            for (c0, expected) in [(-4_097, 254), (-4_096, 4), (4_096, 4), (4_097, 254)] {
+                let put = |state: &mut Vec<u8>| {
+                    state[at..at + 2].copy_from_slice(&i16::to_be_bytes(c0));
+                    state[at + 2..at + 4].copy_from_slice(&[0x80, 0]);
+                };
+                assert_eq!(answer(&put), expected, "c0 {c0} at {at}");
+            }
+        }
+        assert_eq!(answer(&|state| state[10] = 1), 254);
+        assert_eq!(answer(&|state| state.truncate(11_113)), 254);
+        assert_eq!(answer(&|state| state.push(0)), 4);
+        assert_eq!(answer(&|state| state.truncate(2_660)), 254);
     }
 
     #[test]
@@ -296,12 +357,18 @@ mod tests {
     #[test]
     fn only_an_answer_of_0_writes() {
         let table = TableValues::bench().encode();
+        let bias = BiasValues::zeros().encode();
+        let mut wrong = bias.clone();
+        wrong[0] = 0x12;
         let mut short = vec![9; LENGTH - 1];
-        assert_eq!(fresh(&table, &mut short), 254);
-        assert_eq!(fresh(&table[1..], &mut short), 1);
+        assert_eq!(fresh(&table, &bias, &mut short), 254);
+        assert_eq!(fresh(&table, &wrong, &mut short), 2);
+        assert_eq!(fresh(&table[1..], &wrong, &mut short), 1);
         assert_eq!(short, vec![9; LENGTH - 1]);
         let mut longer = vec![9; LENGTH + 1];
-        assert_eq!(fresh(&table, &mut longer), 0);
+        assert_eq!(fresh(&table, &bias[1..], &mut longer), 1);
+        assert_eq!(longer, vec![9; LENGTH + 1]);
+        assert_eq!(fresh(&table, &bias, &mut longer), 0);
         assert_eq!((&longer[..LENGTH], longer[LENGTH]), (&fresh_bench()[..], 9));
 
         // 254 comes before 4 and 7.

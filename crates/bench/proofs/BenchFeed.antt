@@ -1,4 +1,5 @@
--- The calibrator that is fresh under the bench table is fed the bench scan: its verdict, its channels, its product and its answer.
+-- The calibrator that is fresh under the bench table and a bias file of zeros is fed the bench scan: its verdict, its channels, its product and
+-- its answer.
 use Prim.Native.Nat.{ℕ, _≤_}
 use mathlib.Core.Path.{_≡_, refl}
 use mathlib.Core.List.{List, _++_}
@@ -13,7 +14,7 @@ use Rattle.record.specs.Record.{scanNumber, earthCounts}
 use Rattle.window.specs.Ages.{noScan, windowOf, shifted, windowAfter}
 use Rattle.window.specs.Sums.{weightSum, valueSum, thermometerWeights, thermometerSum, meansFrom}
 use Rattle.window.specs.Means.{flagOf, constantsOf, stateOf}
-use Rattle.scene.specs.Scene.{sceneOf}
+use Rattle.scene.specs.Scene.{sceneOf, unbiased}
 use Rattle.product.specs.Scenes.{sceneIn, delivered}
 use Rattle.product.specs.Product.{productOf, deliveredCount, productSize}
 use Rattle.calibrator.specs.Refusals.{delivered as accepted}
@@ -21,14 +22,14 @@ use Rattle.calibrator.specs.Feeding.{keptBy, nextChannels, verdictIn, step}
 use Rattle.instrument.specs.Instrument.{channels}
 use Rattle.bench.specs.Bench.{benchTable, benchScan, benchCalibrator, benchSettings, benchChannel}
 use Rattle.bench.proofs.BenchScan.{benchKept, bench-kept, earth-field}
-use Rattle.bench.proofs.FirstFeed.{states-by-kept, Gives, first-passes, first-outcome, first-reply}
+use Rattle.bench.proofs.FirstFeed.{deliversT, states-by-kept, Gives, first-passes, first-outcome, first-reply}
 
 -- the channels of what the bench scan keeps
 pub channels-of-kept : (scan : List ℕ) → scanNumber scan ≡ 7 → keptBy benchSettings scan ≡ benchKept → nextChannels benchCalibrator scan ≡ replicate channels benchChannel
 unfolding benchTable windowOf windowAfter shifted noScan cells tabulate stateOf flagOf constantsOf meansFrom weightSum valueSum thermometerWeights thermometerSum sum r floor
 channels-of-kept scan number kept = states-by-kept scan benchKept number kept
 
-pub scene-delivered : delivered (sceneIn benchChannel 15000) ≡ true
+pub scene-delivered : delivered (sceneIn unbiased benchChannel 15000) ≡ true
 unfolding sceneIn sceneOf r floor
 scene-delivered = refl
 
@@ -50,8 +51,8 @@ module _ (earth : ℕ) where
 
     pub bench-outcome : step benchCalibrator (record { scan = benchScan earth; buffer = buffer }) .outcome
         ≡ record {
-          reply = accepted (deliveredCount (replicate channels benchChannel) (earthCounts (benchScan earth)));
-          buffer = productOf 7 (replicate channels benchChannel) (earthCounts (benchScan earth)) ++ drop productSize buffer;
+          reply = accepted (deliveredCount deliversT (replicate channels benchChannel) (earthCounts (benchScan earth)));
+          buffer = productOf deliversT 7 (replicate channels benchChannel) (earthCounts (benchScan earth)) ++ drop productSize buffer;
         }
     bench-outcome = first-outcome bench-gives buffer room
 

@@ -15,6 +15,7 @@ use Rattle.product.proofs.Bytes.{number-in-product, flag-in-product}
 use Rattle.record.specs.Record.{earthCounts}
 use Rattle.calibrator.specs.Feeding.{Outcome}
 use Rattle.bench.specs.Bench.{benchScan, benchCalibrator, benchChannel}
+use Rattle.bench.proofs.FirstFeed.{deliversT}
 use Rattle.bench.proofs.BenchFeed.{bench-outcome, bench-reply}
 use Rattle.lines.specs.Lines.{ascii, decimal, flagDigits, refusedLine, scanLine, numberIn, flagsIn, replyLine}
 use Rattle.lines.specs.Steps.{emptyProduct, listedLine}
@@ -49,16 +50,16 @@ bench-line flags zeros =
 
 -- its product, and what comes behind
 abbrev benchProduct : List ℕ
-benchProduct = productOf 7 (replicate channels benchChannel) (earthCounts (benchScan 15000)) ++ drop productSize emptyProduct
+benchProduct = productOf deliversT 7 (replicate channels benchChannel) (earthCounts (benchScan 15000)) ++ drop productSize emptyProduct
 
 number-listed : numberIn benchProduct ≡ 7
-number-listed = number-in-product 7 _ _ _
+number-listed = number-in-product deliversT 7 _ _ _
 
 flag-listed : (c : ℕ) → c < channels → getD (flagsIn benchProduct) c 0 ≡ 0
 flag-listed c below =
     getD-take channels (drop 10 benchProduct) c 0 below
     ∙ getD-drop 10 benchProduct c 0
-    ∙ flag-in-product 7 _ _ _ c below
+    ∙ flag-in-product deliversT 7 _ _ _ c below
     ∙ ap (λ (channel : Channel). channel .flag) (getD-replicate channels c benchChannel noChannel below)
 
 pub bench-listing : listedLine benchCalibrator (benchScan 15000) ≡ ascii "scan 7 delivered 2112 flags 0000000000000000000000\n"

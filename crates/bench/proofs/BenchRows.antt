@@ -1,5 +1,5 @@
--- The rows of document 01's bench scan: N, D and T of its scenes, from what the bench table and the bench scan give; closed numbers
--- compute.
+-- The rows of document 01's bench scan: N, D and T of its scenes, from what the bench table and the bench scan give; and the rows of scan
+-- bias. Closed numbers compute.
 use Prim.Native.Nat.{ℕ, _+_, _<_}
 use mathlib.Core.Path.{_≡_, refl, ap, ap₂, _∙_}
 use mathlib.Core.Bool.{true, false}
@@ -13,8 +13,8 @@ use Rattle.instrument.specs.Instrument.{channels, targetOf, positions}
 use Rattle.acceptance.proofs.Bench as A
 use Rattle.window.specs.declared.Means.{Means}
 use Rattle.window.specs.Means.{D}
-use Rattle.scene.specs.Temperature.{N, outside, temperature}
-use Rattle.bench.specs.Bench.{benchD, benchN, benchT, AllOutside, AllAt, Rows}
+use Rattle.scene.specs.Temperature.{N, outside, temperature, biased}
+use Rattle.bench.specs.Bench.{benchD, benchN, benchT, AllOutside, AllAt, Rows, BiasRows}
 use Rattle.bench.proofs.BenchScan.{benchRow, benchMeans, bench-row, bench-means, earth-count}
 
 -- N of a count, and T of an N
@@ -76,3 +76,7 @@ rows = record {
   H11 = A.h11-side-bad;
   H12 = A.h12-both-bad;
 }
+
+pub bias-rows : BiasRows
+unfolding biased r floor
+bias-rows = record { no-bias = refl; least-e = refl; greatest-e = refl; half-more = refl; half-less = refl }

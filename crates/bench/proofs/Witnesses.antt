@@ -18,6 +18,8 @@ use Rattle.fields.specs.Fields.{fieldIsRight, layoutIsRight}
 use Rattle.instrument.specs.Instrument.{channels, positions}
 use Rattle.record.specs.Record.{scanNumber, recordSize}
 use Rattle.samples.specs.Good.{differs, good, chosenTo}
+use Rattle.bias.specs.Bias.{zeroBias}
+use Rattle.bias.proofs.Zeros.{zero-bias-accepted}
 use Rattle.acceptance.specs.Counts.{Sides, fourCounts, withinLimits, withoutOverlap, acceptedSides, noCounts}
 use Rattle.acceptance.specs.Accepted.{acceptedCounts, acceptedSamples}
 use Rattle.acceptance.specs.Kept.{keptScan}
@@ -25,16 +27,19 @@ use Rattle.scene.specs.declared.Channel.{Channel}
 use Rattle.window.specs.Ages.{noScan, windowOf, shifted, windowAfter}
 use Rattle.window.specs.Sums.{weightSum, valueSum, thermometerWeights, thermometerSum, meansFrom}
 use Rattle.window.specs.Means.{flagOf, stateOf}
-use Rattle.scene.specs.Scene.{noConstants, bits, sceneOf}
-use Rattle.scene.specs.declared.Scene.the-variants.{Flagged, Outside}
-use Rattle.product.specs.Scenes.{sceneIn}
+use Rattle.scene.specs.Temperature.{biased}
+use Rattle.scene.specs.Scene.{kelvin, noConstants, bits, sceneOf, unbiased}
+use Rattle.scene.specs.declared.Scene.the-variants.{Kelvin, Flagged, Outside}
+use Rattle.scene.proofs.Delivered.{within-guard}
+use Rattle.product.specs.Scenes.{Deliver, sceneIn}
+use Rattle.product.proofs.SceneLaws.{InUnitsBy}
 use Rattle.calibrator.specs.declared.Calibrator.{Calibrator}
 use Rattle.calibrator.specs.Refusals.{verdict, Reply, delivered, refused}
 use Rattle.calibrator.specs.Feeding.{Feed, freshOf, verdictIn, stepBy, step}
 use Rattle.promise.specs.Moments.{wordAt, unitsAt, isDelivered}
-use Rattle.promise.specs.Promise.{front, FeedClaim, Alike}
+use Rattle.promise.specs.Promise.{front, FeedClaim, Alike, Promise}
 use Rattle.product.specs.Product.{productSize}
-use Rattle.bench.specs.Bench.{benchTable, perChannel, benchScan, benchCalibrator, benchSettings, benchChannel}
+use Rattle.bench.specs.Bench.{benchTable, perChannel, benchScan, benchCalibrator, benchSettings, benchChannel, benchT}
 use Rattle.bench.specs.Witnesses.{rejectedScan, flaggedScan, zeros, rejectedList, oneOfEach, replies}
 use Rattle.calibrator.proofs.Verdicts.{verdict-length-wrong, verdict-field-wrong, verdict-number-not-above, verdict-buffer-short}
 use Rattle.bench.proofs.BenchScan.{bench-table, samplesAt, samplesWith, samples-are}
@@ -44,11 +49,17 @@ use Rattle.bench.proofs.BenchRows.{rows}
 use Rattle.promise.proofs.Plain.{same-scan-by, alike-accepted-by, alike-refused-by, alike-by, none-alike, same-products-say, each-says}
 use Rattle.promise.proofs.SceneClaims.{bits-delivered}
 use Rattle.promise.proofs.Demand.{demand-three}
+use Rattle.promise.proofs.WithoutBiasLaws.{by-zero-bias}
 
 -- ---- a buffer with room, as the laws below ask for
 
 pub some-room : productSize ≤ length {A = ℕ} (replicate productSize 0)
 some-room = omega (arith, length-replicate {A = ℕ} productSize 0)
+
+-- ---- demand 3, of the bench calibrator
+
+bench-promise : (feeds others : List Feed) → Promise benchCalibrator benchSettings zeroBias feeds others
+bench-promise = demand-three (record { bytes = benchTable }) bench-table (record { bytes = zeroBias }) zero-bias-accepted
 
 -- ---- two lists that are alike and differ in a rejected sample (H10: the fourth is bad)
 
@@ -133,7 +144,7 @@ module _ (buffer other : List ℕ) (room : productSize ≤ length buffer) (other
   unfolding verdict stepBy
   same-products =
       let c = benchCalibrator in
-      let both = demand-three (record { bytes = benchTable }) bench-table firstList secondList .alike lists-alike in
+      let both = bench-promise firstList secondList .alike lists-alike in
       same-products-say c c firstFeed secondFeed [] [] (same-products-say c c _ _ (firstFeed ∷ []) (secondFeed ∷ []) both .1) .0
       .product 2112 (first-reply first-gives buffer room scene-delivered)
 
@@ -188,9 +199,18 @@ module _ (buffer : List ℕ) (room : productSize ≤ length buffer) where
 
 -- ---- scenes
 
-outside-scene : sceneIn benchChannel 9999 ≡ Outside
+-- what is delivered is T, within the guard
+bench-in-units : InUnitsBy unbiased benchChannel
+bench-in-units = record { within = λ flag count passed. within-guard (passed .guard-low) (passed .guard-high) }
+
+outside-scene : sceneIn unbiased benchChannel 9999 ≡ Outside
 unfolding sceneIn sceneOf r floor
 outside-scene = refl
+
+-- with c0 = 1 and e = 0 the count of H4 is delivered one unit higher
+pub one-unit-higher : sceneIn (biased (pos 1) (pos 0)) benchChannel 15000 ≡ Kelvin (kelvin 565395)
+unfolding sceneIn sceneOf biased r floor
+one-unit-higher = refl
 
 -- too few warm counts
 abbrev flaggedChannel : Channel
@@ -210,7 +230,7 @@ flagged-gives = record {
   earths = refl;
 }
 
-flagged-scene : sceneIn flaggedChannel 15000 ≡ Flagged
+flagged-scene : sceneIn unbiased flaggedChannel 15000 ≡ Flagged
 unfolding sceneIn
 flagged-scene = refl
 
@@ -225,14 +245,14 @@ module _ (buffer : List ℕ) (room : productSize ≤ length buffer) (c i : ℕ) 
 
   -- earth counts 15,000 (H4)
   pub all-delivered : isDelivered (wordAt (step benchCalibrator (record { scan = benchScan 15000; buffer = buffer }) .outcome .buffer) c i) ≡ true
-  all-delivered = ap isDelivered (first-word (bench-gives 15000) buffer room c i below inside) ∙ bits-delivered benchChannel 15000 ∙ scene-delivered
+  all-delivered = ap isDelivered (first-word (bench-gives 15000) buffer room c i below inside) ∙ bits-delivered unbiased benchChannel bench-in-units 15000 ∙ scene-delivered
 
   -- so that by demand 3 each is exactly T / 4096
   pub each-is-exact : Equal (unitsAt (step benchCalibrator (record { scan = benchScan 15000; buffer = buffer }) .outcome .buffer) c i) (whole (pos 565394))
   each-is-exact =
       let feed : Feed = record { scan = benchScan 15000; buffer = buffer } in
       let after = step benchCalibrator feed in
-      let promise = demand-three (record { bytes = benchTable }) bench-table (feed ∷ []) [] in
-      let claim = each-says (FeedClaim benchSettings) [] benchCalibrator feed [] (promise .each) .0 .accepts (first-verdict (bench-gives 15000) buffer room) in
-      subst (λ (t : ℤ). Equal (unitsAt (after .outcome .buffer) c i) (whole t)) (rows .H4 c i below inside .1)
-      (claim .scenes c i below inside .exact all-delivered)
+      let promise = bench-promise (feed ∷ []) [] in
+      let claim = each-says (FeedClaim benchSettings zeroBias) [] benchCalibrator feed [] (promise .each) .0 .accepts (first-verdict (bench-gives 15000) buffer room) in
+      let delivered-is = ap (λ (deliver : ℕ → Deliver). deliver c i (benchT 15000 c i)) by-zero-bias ∙ rows .H4 c i below inside .1 in
+      subst (λ (t : ℤ). Equal (unitsAt (after .outcome .buffer) c i) (whole t)) delivered-is (claim .scenes c i below inside .exact all-delivered)

@@ -1,9 +1,10 @@
--- Document 01, "Bench scan": the bench table and the bench scan as bytes, and the rows H1 to H12.
+-- Document 01, "Bench scan", and request W1: the bench table and the bench scan as bytes, the rows H1 to H12, which speak of T, before scan
+-- bias, and rows of scan bias.
 use Prim.Native.Nat.{ℕ, _-_, _<_}
 use mathlib.Core.Path.{_≡_}
 use mathlib.Core.List.{List, [], _∷_, _++_}
 use mathlib.Core.Bool.{true, false}
-use lib.IntN.{ℤ, pos}
+use lib.IntN.{ℤ, pos, negℤ}
 use lib.ListN.{replicate}
 use Rattle.lists.specs.Build.{cells}
 use Rattle.thermometer.specs.Rule.{F, answer}
@@ -11,11 +12,12 @@ use Rattle.table.specs.declared.Limits.{Limits}
 use Rattle.table.specs.Settings.{Settings, tableLayout, settingsOf}
 use Rattle.instrument.specs.Instrument.{thermometers, channels, positions}
 use Rattle.table.specs.Opening.{ages}
+use Rattle.bias.specs.Bias.{zeroBias}
 use Rattle.samples.specs.Good.{good, atLeast}
 use Rattle.acceptance.specs.Counts.{Sides, withinLimits, goodCounts, acceptedSides, scanValue}
 use Rattle.scene.specs.declared.Channel.{Channel}
 use Rattle.record.specs.Record.{recordLayout}
-use Rattle.scene.specs.Temperature.{outside}
+use Rattle.scene.specs.Temperature.{outside, biased}
 use Rattle.fields.specs.Numbers.{u16Bytes, u32Bytes}
 use Rattle.fields.specs.Fields.{fieldAt, fieldBytes}
 use Rattle.calibrator.specs.declared.Calibrator.{Calibrator}
@@ -85,9 +87,9 @@ benchScan earth =
     ++ (fieldBytes (fieldAt recordLayout 3) (perChannel 4 10000)
     ++ fieldBytes (fieldAt recordLayout 4) (perChannel positions earth))))
 
--- the calibrator that is fresh under the bench table
+-- the calibrator that is fresh under the bench table and a bias file of zeros
 abbrev pub benchCalibrator : Calibrator
-benchCalibrator = freshOf (record { bytes = benchTable })
+benchCalibrator = freshOf (record { bytes = benchTable }) (record { bytes = zeroBias })
 
 abbrev pub benchSettings : Settings
 benchSettings = settingsOf ages benchTable
@@ -155,3 +157,11 @@ pub record Rows : Type 0 where
   pub H11 : atLeast 3 (goodCounts limits (four 20000 20000 20100 20100)) ≡ []
   -- warm and cold all 10,000: both bad
   pub H12 : accepted (four 10000 10000 10000 10000) (four 10000 10000 10000 10000) ≡ record { warm = []; cold = [] }
+
+-- what is delivered for T by c0 and e of both signs; three of the rows round a half
+pub record BiasRows : Type 0 where
+  pub no-bias : biased (pos 0) (pos 0) (pos 565394) ≡ pos 565394
+  pub least-e : biased (pos 4096) (negℤ (pos 32768)) (pos 565395) ≡ pos 286794
+  pub greatest-e : biased (negℤ (pos 4096)) (pos 32767) (pos 565394) ≡ pos 843986
+  pub half-more : biased (negℤ (pos 1)) (pos 1) (pos 32768) ≡ pos 32768
+  pub half-less : biased (pos 1) (negℤ (pos 1)) (pos 32768) ≡ pos 32769

@@ -1,7 +1,7 @@
 // The proved functions as C functions, for compare/ to call.
 ghost use mathlib.Core.Path.{_≡_};
 ghost use mathlib.Core.List.{_++_};
-ghost use Prim.Native.Nat.{_+_, _*_, _<_, _≤_};
+ghost use Prim.Native.Nat.{ℕ, _+_, _*_, _<_, _≤_};
 ghost use lib.IntN.{pos};
 ghost use lib.ListN.{length, drop};
 ghost use lib.Signed.{_<ℤ_};
@@ -15,6 +15,7 @@ ghost use Rattle.record.specs.Record.{RightRecord, earthSize};
 ghost use Rattle.acceptance.specs.Accepted.{acceptedSamples};
 ghost use Rattle.acceptance.specs.Kept.{keptScan};
 ghost use Rattle.scene.specs.Ranges.{ConstantsRange};
+ghost use Rattle.product.specs.Steps.{byPairs, pairsSize, pairsPart, PairsRange};
 ghost use Rattle.product.specs.Product.{productSize, productOf, deliveredCount};
 ghost use Rattle.comparison.specs.KeptValues.{keptAt};
 ghost use Rattle.comparison.specs.AlikeChannels.{alikeChannels};
@@ -116,7 +117,8 @@ fn alike_channels(constants: Constants) -> [Channel; CHANNELS]
     [channel; CHANNELS]
 }
 
-// A whole product, of channels with flag 0 that all have these constants: the writer alone, to be timed.
+// A whole product, of channels with flag 0 that all have these constants, under a scan bias: the writer alone, to be timed. `pairs` has
+// two numbers for every position, channel by channel: 65,536 + e and 65,536 (c0 + 32,768) + 32,768.
 #[no_mangle]
 pub extern "C" fn compared_product(
     buffer: &mut [u8],
@@ -127,10 +129,12 @@ pub extern "C" fn compared_product(
     d: i64,
     slope: i64,
     base: i64,
+    pairs: &[u32],
     earth: &[u8],
 ) -> u32
     requires { ⌜ (productSize ≤ length (now buffer)) × (length (now earth) ≡ earthSize * channels) × ConstantsRange (record { tc = tc; rise = rise; tnl = tnl; d = d; slope = slope; base = base }) ⌝ }
-    ensures { λ n. ⌜ (n ≡ deliveredCount (alikeChannels (record { tc = tc; rise = rise; tnl = tnl; d = d; slope = slope; base = base })) (now (earth .entry))) × (now (buffer .exit) ≡ productOf number (alikeChannels (record { tc = tc; rise = rise; tnl = tnl; d = d; slope = slope; base = base })) (now (earth .entry)) ++ drop productSize (now (buffer .entry))) ⌝ }
+    requires { ⌜ (length (now pairs) ≡ pairsSize * channels) × ((k : ℕ) → k < channels → PairsRange (pairsPart (now pairs) k)) ⌝ }
+    ensures { λ n. ⌜ (n ≡ deliveredCount (byPairs (now (pairs .entry))) (alikeChannels (record { tc = tc; rise = rise; tnl = tnl; d = d; slope = slope; base = base })) (now (earth .entry))) × (now (buffer .exit) ≡ productOf (byPairs (now (pairs .entry))) number (alikeChannels (record { tc = tc; rise = rise; tnl = tnl; d = d; slope = slope; base = base })) (now (earth .entry)) ++ drop productSize (now (buffer .entry))) ⌝ }
 {
     let constants = Constants {
         tc,
@@ -140,5 +144,5 @@ pub extern "C" fn compared_product(
         slope,
         base,
     };
-    product::write_product(buffer, number, alike_channels(constants), earth)
+    product::write_product(buffer, number, alike_channels(constants), pairs, earth)
 }

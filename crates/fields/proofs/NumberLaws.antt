@@ -34,7 +34,7 @@ module _ (s t : List ℕ) where
 
 -- ---- two's complement
 
-difference-below-zero : (a b : ℕ) → a < b → pos a -ℤ pos b ≡ negsuc (b - suc a)
+pub difference-below-zero : (a b : ℕ) → a < b → pos a -ℤ pos b ≡ negsuc (b - suc a)
 difference-below-zero a zero less = absurd (omega arith)
 difference-below-zero a (suc b) less = rw (lt-ltb a (suc b) less)
 

@@ -1,5 +1,5 @@
--- Document 01, "Listing program": the lines as lists of bytes. For each record one line, `scan 7 delivered 2112 flags
--- 0000000000000000000000` (number, delivered scenes, 22 flags) or `refused 6`; for a refused table only `refused` and its number.
+-- Document 01, "Listing program", and request W1: the lines as lists of bytes. For each record one line, `scan 7 delivered 2112 flags
+-- 0000000000000000000000` (number, delivered scenes, 22 flags) or `refused 6`; for a refused table or bias file only `refused` and its number.
 -- Each line ends in a line feed (decision 29).
 use Prim.Native.Char.{code}
 use Prim.Native.String as text
@@ -55,7 +55,7 @@ unfoldable pub replyLine : Reply → List ℕ → List ℕ
 replyLine (delivered n) product = scanLine (numberIn product) n (flagsIn product)
 replyLine (refused n) product = refusedLine n
 
--- the line of a table's opening; an accepted table has none
+-- the line of an opening, of a table or of a bias file; an accepted one has none
 unfoldable pub openingLine : Verdict → List ℕ
 openingLine passes = []
 openingLine (fails number) = refusedLine number

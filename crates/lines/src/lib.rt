@@ -131,7 +131,7 @@ pub fn answer_line(answer: Answer, product: &[u8; PRODUCT_SIZE], out: &mut [u8; 
     }
 }
 
-// The line of a table's opening; an accepted table has none.
+// The line of an opening, of a table or of a bias file; an accepted one has none.
 pub fn opening_line(opening: Opening, out: &mut [u8; LONGEST]) -> usize
     ensures { λ r. ⌜ Counts r (now (out .exit)) ⌝ }
     ensures { λ r. ⌜ (r ≡ length (openingLine (verdictOf opening))) × (now (out .exit) ≡ put (now (out .entry)) 0 (openingLine (verdictOf opening))) ⌝ }

@@ -4,7 +4,7 @@ use native.Mathlib.Decide.{decLt}
 use native.Mathlib.Omega.{arith}
 use mathlib.Core.Path.{_≡_, refl, sym, subst}
 use mathlib.Core.List.{List, [], _∷_, _++_}
-use lib.ListN.{length, getD, take, drop, length-take, List·getD-append, List·getD-eq-default}
+use lib.ListN.{length, getD, take, drop, replicate, length-take, List·getD-append, List·getD-eq-default}
 use lib.Seq.{getD-take, getD-drop, getD-append-add}
 use Rattle.lists.specs.Build.{tabulate}
 use Rattle.lists.proofs.Tabulate.{length-tabulate, getD-tabulate}
@@ -13,6 +13,11 @@ pub any-default : {A : Type 0} (l : List A) (i : ℕ) (d e : A) → i < length l
 any-default [] i d e below = absurd (omega arith)
 any-default (x ∷ l) zero d e below = refl
 any-default (x ∷ l) (suc i) d e below = any-default l i d e (omega arith)
+
+pub zero-of-zeros : (n i : ℕ) → _≡_ {A = ℕ} (getD (replicate n 0) i 0) 0
+zero-of-zeros zero i = refl
+zero-of-zeros (suc n) zero = refl
+zero-of-zeros (suc n) (suc i) = zero-of-zeros n i
 
 -- ---- what holds of each element of a list, and of the default behind its end
 

@@ -21,3 +21,8 @@ firstThatApplies ((number when applies) ∷ more) = cond applies (fails number) 
 abbrev pub numberOf : Verdict → ℕ
 numberOf passes = 0
 numberOf (fails n) = n
+
+-- the first verdict decides; where it passes, the second does
+abbrev pub andThen : Verdict → Verdict → Verdict
+andThen passes more = more
+andThen (fails n) more = fails n

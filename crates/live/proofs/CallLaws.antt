@@ -7,8 +7,8 @@ use mathlib.Core.Bool.{Bool, true, false, _&&_}
 use lib.Dec.{leb, eqb}
 use lib.ListN.{length}
 use borrow.Author.Tests.{lt-ltb, le-ltb, lt-leb, le-leb, ne-eqb}
-use Rattle.lists.specs.Tests.{Verdict, passes, fails, numberOf}
-use Rattle.table.specs.Opening.{opening}
+use Rattle.lists.specs.Tests.{Verdict, passes, fails, numberOf, andThen}
+use Rattle.bias.specs.Opening.{bothOpening}
 use Rattle.calibrator.specs.declared.Calibrator.{Calibrator}
 use Rattle.calibrator.specs.declared.Answer.{Answer}
 use Rattle.calibrator.specs.declared.Answer.the-variants.{Accepted, Refused}
@@ -16,37 +16,37 @@ use Rattle.calibrator.specs.declared.Refusal.{Refusal}
 use Rattle.calibrator.specs.declared.Refusal.the-variants.{LengthWrong, FieldWrong, NumberNotAbove, BufferShort}
 use Rattle.calibrator.specs.Refusals.{Reply, refusalNumber, replyOf, replyNumber}
 use Rattle.calibrator.specs.Feeding.{Feed, Stepped, step, freshOf, Leaves}
-use Rattle.state.specs.State.{saved, stateSize, calibratorIn, tableIn, windowIn, windowInside, frontIsRight, isState}
-use Rattle.live.specs.Calls.{noState, andThen, roomFor, freshVerdict, freshBy, stateBy, leftBy, leftIf, fedState, CallLeaves}
+use Rattle.state.specs.State.{saved, stateSize, calibratorIn, tableIn, biasIn, windowIn, windowInside, frontIsRight, isState}
+use Rattle.live.specs.Calls.{noState, roomFor, freshVerdict, freshBy, stateBy, leftBy, leftIf, fedState, CallLeaves}
 
 -- ---- a fresh state
 
-pub record FreshLeaves (table state : List ℕ) (answer : ℕ) (left : List ℕ) : Type 0 where
-  pub answer-is : answer ≡ numberOf (freshVerdict table state)
-  pub state-is : left ≡ freshBy (freshVerdict table state) table state
+pub record FreshLeaves (table bias state : List ℕ) (answer : ℕ) (left : List ℕ) : Type 0 where
+  pub answer-is : answer ≡ numberOf (freshVerdict table bias state)
+  pub state-is : left ≡ freshBy (freshVerdict table bias state) table bias state
 
-module _ (table state : List ℕ) where
-  fresh-by : {verdict : Verdict} {answer : ℕ} {left : List ℕ} → freshVerdict table state ≡ verdict → answer ≡ numberOf verdict → left ≡ freshBy verdict table state
-      → FreshLeaves table state answer left
+module _ (table bias state : List ℕ) where
+  fresh-by : {verdict : Verdict} {answer : ℕ} {left : List ℕ} → freshVerdict table bias state ≡ verdict → answer ≡ numberOf verdict
+      → left ≡ freshBy verdict table bias state → FreshLeaves table bias state answer left
   fresh-by known answers leaves =
-      record { answer-is = answers ∙ sym (ap numberOf known); state-is = leaves ∙ sym (ap (λ (v : Verdict). freshBy v table state) known) }
+      record { answer-is = answers ∙ sym (ap numberOf known); state-is = leaves ∙ sym (ap (λ (v : Verdict). freshBy v table bias state) known) }
 
-  pub refused-by-table : (numberOf (opening table) ≡ 0 → ⊥) → FreshLeaves table state (numberOf (opening table)) state
-  refused-by-table some = by-verdict (opening table) refl some
+  pub refused-by-opening : {n : ℕ} → n ≡ numberOf (bothOpening table bias) → (n ≡ 0 → ⊥) → FreshLeaves table bias state n state
+  refused-by-opening = by-verdict (bothOpening table bias) refl
     where
-      by-verdict : (v : Verdict) → opening table ≡ v → (numberOf v ≡ 0 → ⊥) → FreshLeaves table state (numberOf v) state
-      by-verdict passes is some = absurd (some refl)
-      by-verdict (fails n) is some = fresh-by (ap (λ (v : Verdict). andThen v (roomFor state)) is) refl refl
+      by-verdict : (v : Verdict) → bothOpening table bias ≡ v → {n : ℕ} → n ≡ numberOf v → (n ≡ 0 → ⊥) → FreshLeaves table bias state n state
+      by-verdict passes known is some = absurd (some is)
+      by-verdict (fails k) known is some = fresh-by (ap (λ (v : Verdict). andThen v (roomFor state)) known) is refl
 
-  module _ (passed : opening table ≡ passes) where
-    pub no-room : length state < stateSize → FreshLeaves table state noState state
+  module _ (passed : bothOpening table bias ≡ passes) where
+    pub no-room : length state < stateSize → FreshLeaves table bias state noState state
     no-room short = fresh-by {verdict = fails noState} (ap (λ (v : Verdict). andThen v (roomFor state)) passed ∙ rw (lt-ltb (length state) stateSize short)) refl refl
 
     module _ (room : stateSize ≤ length state) where
-      pub fresh-passes : freshVerdict table state ≡ passes
+      pub fresh-passes : freshVerdict table bias state ≡ passes
       fresh-passes = ap (λ (v : Verdict). andThen v (roomFor state)) passed ∙ rw (le-ltb (length state) stateSize room)
 
-      pub fresh-saved : {left : List ℕ} → left ≡ saved state (freshOf (record { bytes = table })) → FreshLeaves table state 0 left
+      pub fresh-saved : {left : List ℕ} → left ≡ saved state (freshOf (record { bytes = table }) (record { bytes = bias })) → FreshLeaves table bias state 0 left
       fresh-saved is = fresh-by {verdict = passes} fresh-passes refl is
 
 -- ---- which bytes are a state
@@ -56,8 +56,8 @@ and-fails true wrong = wrong
 and-fails false wrong = refl
 
 module _ (state : List ℕ) where
-  abbrev tableAnswers : Bool
-  tableAnswers = eqb (numberOf (opening (tableIn state))) 0
+  abbrev inside : Verdict
+  inside = bothOpening (tableIn state) (biasIn state)
 
   pub short-is-no-state : length state < stateSize → isState state ≡ false
   unfolding isState
@@ -67,19 +67,19 @@ module _ (state : List ℕ) where
   unfolding isState
   wrong-front-is-no-state wrong = and-fails (leb stateSize (length state)) (rw wrong)
 
-  pub refused-table-is-no-state : (numberOf (opening (tableIn state)) ≡ 0 → ⊥) → isState state ≡ false
+  pub refused-is-no-state : {n : ℕ} → n ≡ numberOf inside → (n ≡ 0 → ⊥) → isState state ≡ false
   unfolding isState
-  refused-table-is-no-state some =
-      and-fails (leb stateSize (length state)) (and-fails (frontIsRight state) (rw (ne-eqb (numberOf (opening (tableIn state))) 0 some)))
+  refused-is-no-state is some =
+      and-fails (leb stateSize (length state)) (and-fails (frontIsRight state) (rw (ne-eqb (numberOf inside) 0 (λ none. some (is ∙ none)))))
 
   pub window-outside-is-no-state : windowInside (windowIn state) ≡ false → isState state ≡ false
   unfolding isState
   window-outside-is-no-state outside =
-      and-fails (leb stateSize (length state)) (and-fails (frontIsRight state) (and-fails tableAnswers (rw outside)))
+      and-fails (leb stateSize (length state)) (and-fails (frontIsRight state) (and-fails (eqb (numberOf inside) 0) (rw outside)))
 
-  pub is-state-when : stateSize ≤ length state → frontIsRight state ≡ true → opening (tableIn state) ≡ passes → windowInside (windowIn state) ≡ true → isState state ≡ true
+  pub is-state-when : stateSize ≤ length state → frontIsRight state ≡ true → inside ≡ passes → windowInside (windowIn state) ≡ true → isState state ≡ true
   unfolding isState
-  is-state-when long right passed inside = rw (le-leb stateSize (length state) long, right, passed, inside)
+  is-state-when long right passed holds = rw (le-leb stateSize (length state) long, right, passed, holds)
 
   module _ (feed : Feed) where
     pub no-state-leaves : isState state ≡ false → CallLeaves (fedState state feed) noState state (feed .buffer)

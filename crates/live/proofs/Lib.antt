@@ -1,2 +1,3 @@
+pub mod HandedLaws
 pub mod CallLaws
 pub mod StateRuns

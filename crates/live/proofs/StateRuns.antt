@@ -11,6 +11,9 @@ use Rattle.lists.specs.Build.{put}
 use Rattle.lists.specs.Tests.{Verdict, passes, fails}
 use Rattle.table.specs.declared.Table.{Table}
 use Rattle.table.specs.Opening.{AcceptedTable}
+use Rattle.bias.specs.declared.Bias.{Bias}
+use Rattle.bias.specs.Opening.{AcceptedBias}
+use Rattle.bias.proofs.OpeningLaws.{both-pass}
 use Rattle.record.specs.Record.{scanNumber}
 use Rattle.window.proofs.AgeLaws.{empty-window-range}
 use Rattle.calibrator.specs.declared.Calibrator.{Calibrator}
@@ -28,10 +31,10 @@ use Rattle.state.proofs.ReadBack.{Savable, length-state, is-state, read-back}
 
 -- ---- every calibrator of a run can be written
 
-pub fresh-is-savable : (table : Table) → AcceptedTable (table .bytes) → Savable (freshOf table)
+pub fresh-is-savable : (table : Table) → AcceptedTable (table .bytes) → (bias : Bias) → AcceptedBias (bias .bytes) → Savable (freshOf table bias)
 unfolding freshOf
-fresh-is-savable table accepted =
-    record { table = accepted; shaped = empty-is-shaped; range = empty-window-range; only = empty-reached-only }
+fresh-is-savable table accepted bias file =
+    record { table = accepted; bias = file; shaped = empty-is-shaped; range = empty-window-range; only = empty-reached-only }
 
 module _ {c : Calibrator} (savable : Savable c) (feed : Feed) (bytes : (k : ℕ) → getD (feed .scan) k 0 < 256) where
   savable-by : (v : Verdict) → verdictIn c feed ≡ v → Savable (stepBy v c feed .calibrator)
@@ -43,6 +46,7 @@ module _ {c : Calibrator} (savable : Savable c) (feed : Feed) (bytes : (k : ℕ)
       let facts = passes-facts (c .window .any) (c .window .last) (feed .scan) (length (feed .buffer)) is in
       record {
         table = savable .table;
+        bias = savable .bias;
         shaped = next-is-shaped number (savable .shaped) shape;
         range = next-window-range (settings c) (feed .scan) bytes (savable .range) number;
         only = next-reached-only number (savable .shaped) shape (facts .above) (savable .only);
@@ -95,13 +99,15 @@ saved-after (call ∷ more) bytes saved-as =
       savable = step-is-savable (saved-as .savable) (call .feed) (bytes .0);
     })
 
-pub first-is-saved : (table : Table) → AcceptedTable (table .bytes) → (memory : List ℕ) → stateSize ≤ length memory → SavedAs (firstState table memory) (freshOf table)
-first-is-saved table accepted memory room =
-    let savable = fresh-is-savable table accepted in
+pub first-is-saved : (table : Table) → AcceptedTable (table .bytes) → (bias : Bias) → AcceptedBias (bias .bytes) → (memory : List ℕ) → stateSize ≤ length memory
+    → SavedAs (firstState table bias memory) (freshOf table bias)
+first-is-saved table accepted bias file memory room =
+    let savable = fresh-is-savable table accepted bias file in
+    let passed = both-pass (table .bytes) (bias .bytes) (accepted .accepted) (file .accepted) in
     record {
       same =
-          ap (λ (v : Verdict). take stateSize (freshBy v (table .bytes) memory)) (fresh-passes (table .bytes) memory (accepted .accepted) room)
-          ∙ take-at (stateOf (freshOf table)) _ stateSize (length-state savable);
+          ap (λ (v : Verdict). take stateSize (freshBy v (table .bytes) (bias .bytes) memory)) (fresh-passes (table .bytes) (bias .bytes) memory passed room)
+          ∙ take-at (stateOf (freshOf table bias)) _ stateSize (length-state savable);
       savable = savable;
     }
 
@@ -127,7 +133,7 @@ module _ (fresh : Calibrator) (first : List ℕ) (calls : List Call) (saved-as :
   }
 
 pub demand-three-by-states : DemandThreeByStates
-demand-three-by-states table accepted memory room calls others bytes = record {
-  each = λ call also. call-claim (freshOf table) (firstState table memory) calls (saved-after calls bytes (first-is-saved table accepted memory room)) call also;
-  promise = demand-three table accepted (feedsOf calls) (feedsOf others);
+demand-three-by-states table accepted bias file memory room calls others bytes = record {
+  each = λ call also. call-claim (freshOf table bias) (firstState table bias memory) calls (saved-after calls bytes (first-is-saved table accepted bias file memory room)) call also;
+  promise = demand-three table accepted bias file (feedsOf calls) (feedsOf others);
 }

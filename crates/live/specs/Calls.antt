@@ -6,8 +6,8 @@ use mathlib.Core.List.{List, [], _∷_}
 use mathlib.Core.Bool.{Bool, true, false}
 use lib.Dec.{ltb}
 use lib.ListN.{length}
-use Rattle.lists.specs.Tests.{Verdict, passes, fails, _when_, firstThatApplies}
-use Rattle.table.specs.Opening.{opening}
+use Rattle.lists.specs.Tests.{Verdict, passes, fails, _when_, firstThatApplies, andThen}
+use Rattle.bias.specs.Opening.{bothOpening}
 use Rattle.calibrator.specs.declared.Calibrator.{Calibrator}
 use Rattle.calibrator.specs.Refusals.{Reply, delivered, refused, replyNumber}
 use Rattle.calibrator.specs.Feeding.{Feed, Stepped, freshOf, step}
@@ -17,20 +17,16 @@ use Rattle.state.specs.State.{stateSize, saved, calibratorIn, isState}
 abbrev pub noState : ℕ
 noState = 254
 
--- ---- a fresh state: the table's refusal, then 254 where the state is too short
-abbrev pub andThen : Verdict → Verdict → Verdict
-andThen passes more = more
-andThen (fails n) more = fails n
-
+-- ---- a fresh state: the table's refusal, then the bias file's, then 254 where the state is too short
 abbrev pub roomFor : List ℕ → Verdict
 roomFor state = firstThatApplies ((noState when ltb (length state) stateSize) ∷ [])
 
-abbrev pub freshVerdict : List ℕ → List ℕ → Verdict
-freshVerdict table state = andThen (opening table) (roomFor state)
+abbrev pub freshVerdict : (table bias state : List ℕ) → Verdict
+freshVerdict table bias state = andThen (bothOpening table bias) (roomFor state)
 
-abbrev pub freshBy : Verdict → List ℕ → List ℕ → List ℕ
-freshBy passes table state = saved state (freshOf (record { bytes = table }))
-freshBy (fails n) table state = state
+abbrev pub freshBy : Verdict → (table bias state : List ℕ) → List ℕ
+freshBy passes table bias state = saved state (freshOf (record { bytes = table }) (record { bytes = bias }))
+freshBy (fails n) table bias state = state
 
 -- ---- feeding a scan: 254 where the bytes are no state, then as document 01 says
 pub record Left : Type 0 where

@@ -8,6 +8,8 @@ use lib.ListN.{length, getD, take, drop}
 use Rattle.table.specs.declared.Table.{Table}
 use Rattle.table.specs.Settings.{Settings, settingsOf}
 use Rattle.table.specs.Opening.{ages, AcceptedTable}
+use Rattle.bias.specs.declared.Bias.{Bias}
+use Rattle.bias.specs.Opening.{AcceptedBias}
 use Rattle.calibrator.specs.declared.Calibrator.{Calibrator}
 use Rattle.calibrator.specs.Refusals.{replyNumber}
 use Rattle.calibrator.specs.Feeding.{Feed, freshOf, calibratorAfter, outcomeAfter}
@@ -32,8 +34,8 @@ stateAfter state [] = state
 stateAfter state (call ∷ more) = stateAfter (take stateSize (leftAt state call .state)) more
 
 -- the state that a fresh calibrator leaves in a caller's memory
-abbrev pub firstState : Table → List ℕ → List ℕ
-firstState table memory = take stateSize (freshBy (freshVerdict (table .bytes) memory) (table .bytes) memory)
+abbrev pub firstState : Table → Bias → List ℕ → List ℕ
+firstState table bias memory = take stateSize (freshBy (freshVerdict (table .bytes) (bias .bytes) memory) (table .bytes) (bias .bytes) memory)
 
 -- a record of bytes, as every call from C has
 abbrev pub OfBytes : Call → Type 0
@@ -54,12 +56,13 @@ pub record CallClaim (fresh : Calibrator) (first : List ℕ) (calls : List Call)
   -- the bytes behind the state are as they were
   pub behind : drop stateSize (leftAt (stateAfter first calls) call .state) ≡ call .behind
 
-pub record RunPromise (fresh : Calibrator) (s : Settings) (first : List ℕ) (calls others : List Call) : Type 0 where
+pub record RunPromise (fresh : Calibrator) (s : Settings) (bias first : List ℕ) (calls others : List Call) : Type 0 where
   pub each : (call : Call) → OfBytes call → CallClaim fresh first calls call
-  pub promise : Promise fresh s (feedsOf calls) (feedsOf others)
+  pub promise : Promise fresh s bias (feedsOf calls) (feedsOf others)
 
--- for every accepted table, every memory that a state has room in, every list of calls and every second list
+-- for every accepted table, every accepted bias file, every memory that a state has room in, every list of calls and every second list
 abbrev pub DemandThreeByStates : Type 0
 DemandThreeByStates =
-    (table : Table) → AcceptedTable (table .bytes) → (memory : List ℕ) → stateSize ≤ length memory → (calls others : List Call) → AllOfBytes calls
-    → RunPromise (freshOf table) (settingsOf ages (table .bytes)) (firstState table memory) calls others
+    (table : Table) → AcceptedTable (table .bytes) → (bias : Bias) → AcceptedBias (bias .bytes) → (memory : List ℕ) → stateSize ≤ length memory
+    → (calls others : List Call) → AllOfBytes calls
+    → RunPromise (freshOf table bias) (settingsOf ages (table .bytes)) (bias .bytes) (firstState table bias memory) calls others

@@ -6,7 +6,9 @@ ghost use Rattle.lists.specs.Tests.{numberOf};
 ghost use Rattle.calibrator.specs.Feeding.{step, Sound};
 ghost use Rattle.state.specs.State.{stateSize};
 ghost use Rattle.live.specs.Calls.{freshVerdict, freshBy, leftBy, fedState, CallLeaves};
+use bias::BIAS_SIZE;
 use calibrator::Calibrator;
+use state::BIAS_AT;
 use state::STATE_SIZE;
 use state::TABLE_AT;
 use table::TABLE_SIZE;
@@ -14,9 +16,10 @@ use table::TABLE_SIZE;
 // The answer where the bytes are no state, or no state has room.
 const NO_STATE: u8 = 254;
 
-// A fresh state under this table: 0, the number of the table's refusal, or 254 where the state is too short.
-pub fn fresh(table: &[u8], state: &mut [u8]) -> u8
-    ensures { λ n. ⌜ (n ≡ numberOf (freshVerdict (now (table .entry)) (now (state .entry)))) × (now (state .exit) ≡ freshBy (freshVerdict (now (table .entry)) (now (state .entry))) (now (table .entry)) (now (state .entry))) ⌝ }
+// A fresh state under this table and this bias file: 0, the number of the table's refusal, then of the bias file's, or 254 where the state is
+// too short.
+pub fn fresh(table: &[u8], bias: &[u8], state: &mut [u8]) -> u8
+    ensures { λ n. ⌜ (n ≡ numberOf (freshVerdict (now (table .entry)) (now (bias .entry)) (now (state .entry)))) × (now (state .exit) ≡ freshBy (freshVerdict (now (table .entry)) (now (bias .entry)) (now (state .entry))) (now (table .entry)) (now (bias .entry)) (now (state .entry))) ⌝ }
 {
     let opened = table::open(table);
     let answer = opened.answer;
@@ -24,10 +27,16 @@ pub fn fresh(table: &[u8], state: &mut [u8]) -> u8
     if number != 0 {
         return number;
     }
+    let pairs = bias::open(bias);
+    let second = pairs.answer;
+    let after = table::refusal_number(second);
+    if after != 0 {
+        return after;
+    }
     if state.len() < STATE_SIZE {
         return NO_STATE;
     }
-    state::save(state, Calibrator::fresh(opened.table()));
+    state::save(state, Calibrator::fresh(opened.table(), pairs.bias()));
     0
 }
 
@@ -61,10 +70,15 @@ pub fn feed(state: &mut [u8], scan: &[u8], buffer: &mut [u8]) -> u8
     if table::refusal_number(answer) != 0 {
         return NO_STATE;
     }
+    let pairs = bias::open(&state[BIAS_AT..BIAS_AT + BIAS_SIZE]);
+    let second = pairs.answer;
+    if table::refusal_number(second) != 0 {
+        return NO_STATE;
+    }
     let window = state::window_in(state);
     if !state::window_inside(window) {
         return NO_STATE;
     }
-    let calibrator = Calibrator::restored(opened.table(), window);
+    let calibrator = Calibrator::restored(opened.table(), pairs.bias(), window);
     feed_restored(calibrator, state, scan, buffer)
 }

@@ -4,3 +4,4 @@ pub mod SceneLaws
 pub mod Plain
 pub mod SummaryLaws
 pub mod Bytes
+pub mod Deliveries

@@ -1,7 +1,7 @@
 -- Every summary can be written: neither of its ends is a NaN.
 use Prim.Native.Nat.{ℕ, zero, suc, _<_}
 use mathlib.Core.Path.{sym, subst}
-use mathlib.Core.List.{List, []}
+use mathlib.Core.List.{List}
 use mathlib.Core.Bool.{Bool, true, false, not, cond}
 use lib.Dec.{T, eqb}
 use lib.ListN.{getD}
@@ -13,7 +13,7 @@ use Rattle.scene.specs.Scene.{value}
 use Rattle.scene.specs.declared.Channel.{Channel}
 use Rattle.instrument.specs.Instrument.{channels, positions}
 use Rattle.product.specs.declared.Summary.{Summary}
-use Rattle.product.specs.Scenes.{sceneAt, noChannel}
+use Rattle.product.specs.Scenes.{Deliver, sceneAt, noChannel}
 use Rattle.record.specs.Record.{earthPart}
 use Rattle.product.specs.Summary.{noneDelivered, lesser, greater, withTemperature, withScene, summaryTo, summaryOf}
 use Rattle.product.specs.Product.{summaries}
@@ -43,11 +43,11 @@ unfolding summaryTo
 plain-summary scenes each zero = plain-none
 plain-summary scenes each (suc n) = plain-with-scene (summaryTo scenes n) (scenes n) (plain-summary scenes each n) (each n)
 
-plain-summary-of : (channel : Channel) (part : List ℕ) → Plain (summaryOf channel part)
-plain-summary-of channel part = plain-summary (sceneAt channel part) (λ i. scene-in-not-nan channel _) positions
+plain-summary-of : (deliver : Deliver) (channel : Channel) (part : List ℕ) → Plain (summaryOf deliver channel part)
+plain-summary-of deliver channel part = plain-summary (sceneAt deliver channel part) (λ i. scene-in-not-nan (deliver i) channel _) positions
 
-pub plain-summaries : (states : List Channel) (earth : List ℕ) (c : ℕ) → c < channels → Plain (getD (summaries states earth) c (summaryOf noChannel []))
+pub plain-summaries : (deliver : ℕ → Deliver) (states : List Channel) (earth : List ℕ) (c : ℕ) → c < channels → Plain (getD (summaries deliver states earth) c noneDelivered)
 unfolding summaries
-plain-summaries states earth c below =
-    subst Plain (sym (getD-tabulate (λ k. summaryOf (getD states k noChannel) (earthPart earth k)) channels c (summaryOf noChannel []) below))
-    (plain-summary-of (getD states c noChannel) (earthPart earth c))
+plain-summaries deliver states earth c below =
+    subst Plain (sym (getD-tabulate (λ k. summaryOf (deliver k) (getD states k noChannel) (earthPart earth k)) channels c noneDelivered below))
+    (plain-summary-of (deliver c) (getD states c noChannel) (earthPart earth c))

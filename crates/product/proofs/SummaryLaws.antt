@@ -7,7 +7,7 @@ use native.Mathlib.Numerals.{add-one}
 use native.Mathlib.Omega.{arith}
 use mathlib.Core.Path.{_≡_, refl, sym, ap, ap₂, subst, _∙_}
 use mathlib.Core.Bool.{Bool, true, false, cond}
-use mathlib.Core.List.{List, []}
+use mathlib.Core.List.{List}
 use lib.Dec.{eqb, ltb}
 use lib.IntN.{pos}
 use lib.Ieee.{Float, fin, lt}
@@ -25,11 +25,11 @@ use Rattle.scene.proofs.Exact.{kelvin-order}
 use Rattle.scene.specs.declared.Channel.{Channel}
 use Rattle.instrument.specs.Instrument.{channels, positions}
 use Rattle.product.specs.declared.Summary.{Summary}
-use Rattle.product.specs.Scenes.{sceneAt, noChannel, delivered}
+use Rattle.product.specs.Scenes.{Deliver, sceneAt, noChannel, delivered}
 use Rattle.record.specs.Record.{earthPart}
 use Rattle.product.specs.Summary.{noneDelivered, withTemperature, withScene, summaryTo, summaryOf}
 use Rattle.product.specs.Product.{summaries, deliveredCount}
-use Rattle.product.proofs.SceneLaws.{InUnits, temperature-in-units}
+use Rattle.product.proofs.SceneLaws.{InUnits, InUnitsBy, temperature-in-units}
 
 -- ---- scene by scene
 
@@ -67,22 +67,22 @@ module _ (scenes : ℕ → Scene) where
       let holds : ℕ → Bool = λ k. delivered (scenes k) in
       omega (arith, count-is-delivered n, tests.count-when-true holds i is, tests.count-rises holds (i + 1) n (omega arith))
 
-pub summary-count : (channel : Channel) (part : List ℕ) → summaryOf channel part .count ≡ count (λ i. delivered (sceneAt channel part i)) positions
-summary-count channel part = count-is-delivered (sceneAt channel part) positions
+pub summary-count : (deliver : Deliver) (channel : Channel) (part : List ℕ) → summaryOf deliver channel part .count ≡ count (λ i. delivered (sceneAt deliver channel part i)) positions
+summary-count deliver channel part = count-is-delivered (sceneAt deliver channel part) positions
 
--- what a product delivers is the sum over its channels
-pub delivered-count : (states : List Channel) (earth : List ℕ)
-    → deliveredCount states earth ≡ sum (λ c. count (λ i. delivered (sceneAt (getD states c noChannel) (earthPart earth c) i)) positions) channels
-unfolding deliveredCount
-delivered-count states earth = sum-same _ _ channels (λ c below. summary-count (getD states c noChannel) (earthPart earth c))
+module _ (deliver : ℕ → Deliver) (states : List Channel) (earth : List ℕ) where
+  -- what a product delivers is the sum over its channels
+  pub delivered-count : deliveredCount deliver states earth
+      ≡ sum (λ c. count (λ i. delivered (sceneAt (deliver c) (getD states c noChannel) (earthPart earth c) i)) positions) channels
+  unfolding deliveredCount
+  delivered-count = sum-same _ _ channels (λ c below. summary-count (deliver c) (getD states c noChannel) (earthPart earth c))
 
--- the counts of the summaries that a product holds add up to what it delivers
-pub counts-of-summaries : (states : List Channel) (earth : List ℕ)
-    → sum (λ c. getD (summaries states earth) c (summaryOf noChannel []) .count) channels ≡ deliveredCount states earth
-unfolding summaries deliveredCount
-counts-of-summaries states earth =
-    let each : ℕ → Summary = λ c. summaryOf (getD states c noChannel) (earthPart earth c) in
-    sum-same _ (λ c. each c .count) channels (λ c below. ap (λ (s : Summary). s .count) (getD-tabulate each channels c (summaryOf noChannel []) below))
+  -- the counts of the summaries that a product holds add up to what it delivers
+  pub counts-of-summaries : sum (λ c. getD (summaries deliver states earth) c noneDelivered .count) channels ≡ deliveredCount deliver states earth
+  unfolding summaries deliveredCount
+  counts-of-summaries =
+      let each : ℕ → Summary = λ c. summaryOf (deliver c) (getD states c noChannel) (earthPart earth c) in
+      sum-same _ (λ c. each c .count) channels (λ c below. ap (λ (s : Summary). s .count) (getD-tabulate each channels c noneDelivered below))
 
 -- ---- no scene delivered
 
@@ -98,10 +98,10 @@ unfolding summaryTo
 none-to scenes zero none = refl
 none-to scenes (suc n) none = none-with-scene (summaryTo scenes n) (scenes n) (none-to scenes n) none
 
-pub ends-when-none : (channel : Channel) (part : List ℕ) → summaryOf channel part .count ≡ 0
-    → (summaryOf channel part .low ≡ fin true 1 (pos 0)) × (summaryOf channel part .high ≡ fin true 1 (pos 0))
-ends-when-none channel part none =
-    let is = none-to (sceneAt channel part) positions none in
+pub ends-when-none : (deliver : Deliver) (channel : Channel) (part : List ℕ) → summaryOf deliver channel part .count ≡ 0
+    → (summaryOf deliver channel part .low ≡ fin true 1 (pos 0)) × (summaryOf deliver channel part .high ≡ fin true 1 (pos 0))
+ends-when-none deliver channel part none =
+    let is = none-to (sceneAt deliver channel part) positions none in
     (ap (λ (s : Summary). s .low) is, ap (λ (s : Summary). s .high) is)
 
 -- ---- the ends, for either order: `before` is `lt` for the lowest, and `lt` the other way round for the highest
@@ -215,11 +215,11 @@ downwards = record {
       lt-of-units y x q p ∙ le-ltb (q .units) (p .units) (omega arith);
 }
 
-module _ (channel : Channel) (part : List ℕ) (some : 0 < summaryOf channel part .count) where
-  pub lowest : IsEnd lt (sceneAt channel part) positions (summaryOf channel part .low)
+module _ (deliver : Deliver) (channel : Channel) (part : List ℕ) (units : (i : ℕ) → InUnitsBy (deliver i) channel) (some : 0 < summaryOf deliver channel part .count) where
+  pub lowest : IsEnd lt (sceneAt deliver channel part) positions (summaryOf deliver channel part .low)
   unfolding withTemperature
-  lowest = end-of-first (sceneAt channel part) (λ i. temperature-in-units channel _) lt upwards (λ s. s .low) (λ s x. refl) positions some
+  lowest = end-of-first (sceneAt deliver channel part) (λ i. temperature-in-units (deliver i) channel _ (units i)) lt upwards (λ s. s .low) (λ s x. refl) positions some
 
-  pub highest : IsEnd above (sceneAt channel part) positions (summaryOf channel part .high)
+  pub highest : IsEnd above (sceneAt deliver channel part) positions (summaryOf deliver channel part .high)
   unfolding withTemperature
-  highest = end-of-first (sceneAt channel part) (λ i. temperature-in-units channel _) above downwards (λ s. s .high) (λ s x. refl) positions some
+  highest = end-of-first (sceneAt deliver channel part) (λ i. temperature-in-units (deliver i) channel _ (units i)) above downwards (λ s. s .high) (λ s x. refl) positions some

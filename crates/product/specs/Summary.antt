@@ -11,7 +11,7 @@ use Rattle.scene.specs.declared.Scene.the-variants.{Kelvin, Flagged, Outside, G
 use Rattle.scene.specs.declared.Channel.{Channel}
 use Rattle.instrument.specs.Instrument.{positions}
 use Rattle.product.specs.declared.Summary.{Summary}
-use Rattle.product.specs.Scenes.{sceneAt}
+use Rattle.product.specs.Scenes.{Deliver, sceneAt}
 
 abbrev pub noneDelivered : Summary
 noneDelivered = record { count = 0; low = fin true 1 (pos 0); high = fin true 1 (pos 0) }
@@ -41,5 +41,5 @@ summaryTo scenes zero = noneDelivered
 summaryTo scenes (suc n) = withScene (summaryTo scenes n) (scenes n)
 
 -- of a channel's scenes
-abbrev pub summaryOf : Channel → List ℕ → Summary
-summaryOf channel part = summaryTo (sceneAt channel part) positions
+abbrev pub summaryOf : Deliver → Channel → List ℕ → Summary
+summaryOf deliver channel part = summaryTo (sceneAt deliver channel part) positions

@@ -7,11 +7,13 @@ ghost use Rattle.lists.specs.Build.{put};
 ghost use Rattle.lists.specs.Sum.{sum};
 ghost use Rattle.instrument.specs.Instrument.{channels};
 ghost use Rattle.record.specs.Record.{earthSize};
+ghost use Rattle.scene.specs.Temperature.{biased};
+ghost use Rattle.scene.specs.Steps.{c0Of, eOf, BiasNumbers};
 ghost use Rattle.product.specs.Scenes.{sceneIn, noChannel};
 ghost use Rattle.product.specs.Ranges.{ChannelRange};
 ghost use Rattle.product.specs.Summary.{noneDelivered, lesser, greater, withTemperature, withScene, summaryOf};
 ghost use Rattle.product.specs.Product.{productSize, stretchSize, summarySize, channelScenes, sceneBytes, summaryBytes, summaries, summariesBytes, flagBytes, productOf, deliveredCount};
-ghost use Rattle.product.specs.Steps.{Plain, scaleIn};
+ghost use Rattle.product.specs.Steps.{Plain, withPairs, pairsSize, pairsPart, byPairs, PairsRange, scaleIn};
 use fields::HEAD;
 use instrument::CHANNELS;
 use instrument::POSITIONS;
@@ -44,6 +46,9 @@ pub const FLAGS_AT: usize = FLAGS + HEAD;
 const STRETCH_SIZE: usize = 4 * POSITIONS;
 
 const SUMMARY_SIZE: usize = 10;
+
+// How many numbers the scan bias of a channel has.
+const PAIRS_SIZE: usize = 2 * POSITIONS;
 
 // Of a channel: how many scenes are delivered, the lowest and the highest temperature.
 pub struct Summary {
@@ -122,49 +127,60 @@ fn scale_in(channel: Channel) -> Scale
     scene::scale_of(k)
 }
 
-// The scene of a count in a channel.
-fn scene_in(channel: Channel, scale: Scale, count: u16) -> Scene
-    requires { ⌜ ChannelRange channel × (scale ≡ scaleIn channel) ⌝ }
-    ensures { λ s. ⌜ s ≡ sceneIn channel count ⌝ }
+// The scene of a count in a channel, after scan bias.
+fn scene_in(channel: Channel, scale: Scale, factor: u32, offset: u32, count: u16) -> Scene
+    requires { ⌜ ChannelRange channel × (scale ≡ scaleIn channel) × BiasNumbers factor offset ⌝ }
+    ensures { λ s. ⌜ s ≡ sceneIn (biased (c0Of offset) (eOf factor)) channel count ⌝ }
 {
     if channel.flag != 0 {
         return Scene::Flagged;
     }
     let k = channel.constants;
-    scene::scene_of(k, scale, count)
+    scene::scene_of(k, scale, factor, offset, count)
 }
 
 // ---- writing
 
-// The scenes of a channel into its own stretch; `part` is the channel's part of the earth counts.
-fn write_channel(out: &mut [u8], channel: Channel, part: &[u8]) -> Summary
+// The scenes of a channel into its own stretch; `pairs` and `part` are the channel's parts of the scan bias and of the earth counts.
+fn write_channel(out: &mut [u8], channel: Channel, pairs: &[u32], part: &[u8]) -> Summary
     requires { ⌜ (length (now out) ≡ stretchSize) × (length (now part) ≡ earthSize) × ChannelRange channel ⌝ }
-    ensures { λ r. ⌜ (r ≡ summaryOf channel (now (part .entry))) × (now (out .exit) ≡ channelScenes channel (now (part .entry))) ⌝ }
+    requires { ⌜ (length (now pairs) ≡ pairsSize) × PairsRange (now pairs) ⌝ }
+    ensures { λ r. ⌜ (r ≡ summaryOf (withPairs (now (pairs .entry))) channel (now (part .entry))) × (now (out .exit) ≡ channelScenes (withPairs (now (pairs .entry))) channel (now (part .entry))) ⌝ }
 {
     let scale = scale_in(channel);
     let mut summary = Summary::none();
     for i in 0..POSITIONS {
-        let s = scene_in(channel, scale, fields::u16_at(part, 2 * i));
+        let factor = pairs[2 * i];
+        let offset = pairs[2 * i + 1];
+        let s = scene_in(channel, scale, factor, offset, fields::u16_at(part, 2 * i));
         summary = summary.with_scene(s);
         fields::put_u32(out, 4 * i, scene::bits_of(s));
     }
     summary
 }
 
-// The scenes of all channels; each is lent its own stretch, and its own part of the earth counts.
-fn write_scenes(out: &mut [u8], states: [Channel; CHANNELS], earth: &[u8]) -> [Summary; CHANNELS]
+// The scenes of all channels; each is lent its own stretch, and its own parts of the scan bias and of the earth counts.
+fn write_scenes(
+    out: &mut [u8],
+    states: [Channel; CHANNELS],
+    pairs: &[u32],
+    earth: &[u8],
+) -> [Summary; CHANNELS]
     requires { ⌜ (length (now out) ≡ stretchSize * channels) × (length (now earth) ≡ earthSize * channels) × ((c : ℕ) → c < channels → ChannelRange (getD states c noChannel)) ⌝ }
-    ensures { λ r. ⌜ (r ≡ summaries states (now (earth .entry))) × (now (out .exit) ≡ sceneBytes states (now (earth .entry))) ⌝ }
+    requires { ⌜ (length (now pairs) ≡ pairsSize * channels) × ((c : ℕ) → c < channels → PairsRange (pairsPart (now pairs) c)) ⌝ }
+    ensures { λ r. ⌜ (r ≡ summaries (byPairs (now (pairs .entry))) states (now (earth .entry))) × (now (out .exit) ≡ sceneBytes (byPairs (now (pairs .entry))) states (now (earth .entry))) ⌝ }
 {
-    let first = Summary::none();
-    let mut all = [first; CHANNELS];
+    let none = Summary::none();
+    let mut all = [none; CHANNELS];
     for c in 0..CHANNELS {
         let channel = states[c];
         let from = EARTH_SIZE * c;
+        let first = PAIRS_SIZE * c;
         let start = STRETCH_SIZE * c;
         let summary = write_channel(
             &mut out[start..start + STRETCH_SIZE],
             channel,
+            &pairs[first..first + PAIRS_SIZE],
             &earth[from..from + EARTH_SIZE],
         );
         all[c] = summary;
@@ -182,7 +198,7 @@ fn put_summary(out: &mut [u8], at: usize, s: Summary)
 }
 
 fn write_summaries(out: &mut [u8], all: [Summary; CHANNELS])
-    requires { ⌜ (length (now out) ≡ summarySize * channels) × ((c : ℕ) → c < channels → Plain (getD all c (summaryOf noChannel []))) ⌝ }
+    requires { ⌜ (length (now out) ≡ summarySize * channels) × ((c : ℕ) → c < channels → Plain (getD all c noneDelivered)) ⌝ }
     ensures { λ _. ⌜ now (out .exit) ≡ summariesBytes all ⌝ }
 {
     for c in 0..CHANNELS {
@@ -202,7 +218,7 @@ fn write_flags(out: &mut [u8], states: [Channel; CHANNELS])
 }
 
 fn total_count(all: [Summary; CHANNELS]) -> u32
-    ensures { λ n. ⌜ n ≡ sum (λ c. getD all c (summaryOf noChannel []) .count) channels ⌝ }
+    ensures { λ n. ⌜ n ≡ sum (λ c. getD all c noneDelivered .count) channels ⌝ }
 {
     let mut n = 0u32;
     for c in 0..CHANNELS {
@@ -212,22 +228,25 @@ fn total_count(all: [Summary; CHANNELS]) -> u32
     n
 }
 
-// The whole product into the front of a buffer, and how many scenes it delivers. Bytes past it stay.
+// The whole product into the front of a buffer, and how many scenes it delivers. Bytes past it stay. `pairs` has the
+// scan bias of every position as a factor and an offset, channel by channel.
 pub fn write_product(
     buffer: &mut [u8],
     number: u32,
     states: [Channel; CHANNELS],
+    pairs: &[u32],
     earth: &[u8],
 ) -> u32
     requires { ⌜ (productSize ≤ length (now buffer)) × (length (now earth) ≡ earthSize * channels) × ((c : ℕ) → c < channels → ChannelRange (getD states c noChannel)) ⌝ }
-    ensures { λ n. ⌜ (n ≡ deliveredCount states (now (earth .entry))) × (now (buffer .exit) ≡ productOf number states (now (earth .entry)) ++ drop productSize (now (buffer .entry))) ⌝ }
+    requires { ⌜ (length (now pairs) ≡ pairsSize * channels) × ((c : ℕ) → c < channels → PairsRange (pairsPart (now pairs) c)) ⌝ }
+    ensures { λ n. ⌜ (n ≡ deliveredCount (byPairs (now (pairs .entry))) states (now (earth .entry))) × (now (buffer .exit) ≡ productOf (byPairs (now (pairs .entry))) number states (now (earth .entry)) ++ drop productSize (now (buffer .entry))) ⌝ }
 {
     fields::put_head(buffer, NUMBER, TAGS[0], SIZES[0]);
     fields::put_u32(buffer, NUMBER_AT, number);
     fields::put_head(buffer, FLAGS, TAGS[1], SIZES[1]);
     write_flags(&mut buffer[FLAGS_AT..SCENES], states);
     fields::put_head(buffer, SCENES, TAGS[2], SIZES[2]);
-    let all = write_scenes(&mut buffer[SCENES + HEAD..SUMMARIES], states, earth);
+    let all = write_scenes(&mut buffer[SCENES + HEAD..SUMMARIES], states, pairs, earth);
     fields::put_head(buffer, SUMMARIES, TAGS[3], SIZES[3]);
     write_summaries(&mut buffer[SUMMARIES + HEAD..PRODUCT_SIZE], all);
     total_count(all)

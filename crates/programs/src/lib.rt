@@ -1,5 +1,7 @@
-// What the programs `listing` and `calibrate` do: both read table.bin and records from standard input, feed each record and write what
-// the crate `lines` makes of it. Nothing can be stated of what a call of C reads or writes, so nothing but these calls is done here.
+// What the programs `listing` and `calibrate` do: both read table.bin, then bias.bin, then records from standard input, feed each record
+// and write what the crate `lines` makes of it. Nothing can be stated of what a call of C reads or writes, so nothing but these calls is
+// done here.
+use bias::BIAS_SIZE;
 use calibrator::Calibrator;
 use libc::STDERR_FILENO;
 use libc::STDIN_FILENO;
@@ -9,7 +11,9 @@ use product::PRODUCT_SIZE;
 use record::RECORD_SIZE;
 use table::Opening;
 use table::TABLE_SIZE;
+use table::Table;
 ghost use mathlib.Core.Path.{_≡_};
+ghost use Rattle.table.specs.Opening.{AcceptedTable};
 ghost use Rattle.calibrator.specs.Feeding.{Sound};
 ghost use Rattle.io.specs.Counts.{Counts};
 ghost use Rattle.lines.specs.Steps.{listedOf, calibratedOf};
@@ -178,7 +182,7 @@ fn each_record(program: Program, calibrator: Calibrator)
     }
 }
 
-// Where the line of a refused table goes.
+// Where the line of a refused table or bias file goes.
 fn refusals_to(program: Program) -> i32
     ensures { λ fd. ⌜ fd ≡ refusalsTo program ⌝ }
 {
@@ -188,14 +192,8 @@ fn refusals_to(program: Program) -> i32
     }
 }
 
-// A refused table gives its line alone, and no record is read. Where standard error does not take that line, it takes no other.
-fn with_table(program: Program, bytes: &[u8]) {
-    let opened = table::open(bytes);
-    let answer = opened.answer;
-    if let Opening::Accepted = answer {
-        each_record(program, Calibrator::fresh(opened.table()));
-        return;
-    }
+// Writes the line of a refused table or bias file. Where standard error does not take that line, it takes no other.
+fn refuse(program: Program, answer: Opening) {
     let mut line = [0u8; lines::LONGEST];
     let size = lines::opening_line(answer, &mut line);
     let to = refusals_to(program);
@@ -207,12 +205,12 @@ fn with_table(program: Program, bytes: &[u8]) {
     }
 }
 
-// Reads table.bin of the working directory and answers how many bytes it has, a longer one than a table counting as one byte longer. One that
-// cannot be opened or read counts as empty.
-fn read_table(bytes: &mut [u8; TABLE_SIZE + 1]) -> usize
+// Reads a file of the working directory, as far as `bytes` has room, and answers how many bytes were read: none where it cannot be opened
+// or read. Room for one byte more than an accepted file has tells a longer one.
+fn read_file(name: &[u8], bytes: &mut [u8]) -> usize
     ensures { λ r. ⌜ Counts r (now (bytes .exit)) ⌝ }
 {
-    let file = os::open_read(b"table.bin");
+    let file = os::open_read(name);
     if file < 0 {
         return 0;
     }
@@ -221,8 +219,34 @@ fn read_table(bytes: &mut [u8; TABLE_SIZE + 1]) -> usize
     n
 }
 
+// A refused bias file gives its line alone, and no record is read.
+fn with_bias(program: Program, table: Table, bytes: &[u8])
+    requires { ⌜ AcceptedTable (table .bytes) ⌝ }
+{
+    let opened = bias::open(bytes);
+    let answer = opened.answer;
+    match answer {
+        Opening::Accepted => each_record(program, Calibrator::fresh(table, opened.bias())),
+        _ => refuse(program, answer),
+    }
+}
+
+// A refused table gives its line alone, and bias.bin is not even opened: it may be a named pipe that nobody writes to.
+fn with_table(program: Program, bytes: &[u8]) {
+    let opened = table::open(bytes);
+    let answer = opened.answer;
+    match answer {
+        Opening::Accepted => {
+            let mut pairs = [0u8; BIAS_SIZE + 1];
+            let n = read_file(b"bias.bin", &mut pairs);
+            with_bias(program, opened.table(), &pairs[..n]);
+        }
+        _ => refuse(program, answer),
+    }
+}
+
 pub fn run(program: Program) {
     let mut bytes = [0u8; TABLE_SIZE + 1];
-    let n = read_table(&mut bytes);
+    let n = read_file(b"table.bin", &mut bytes);
     with_table(program, &bytes[..n]);
 }

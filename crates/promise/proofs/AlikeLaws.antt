@@ -1,5 +1,5 @@
 -- Two lists that are alike give the same products: their rolls keep the same scans by age, and a product is made of these, the number
--- and the earth counts alone.
+-- and the earth counts alone, under one table and one bias file.
 use Prim.Native.Nat.{ℕ, _+_}
 use native.Mathlib.Omega.{arith}
 use mathlib.Core.Path.{_≡_, refl, sym, ap, ap₂, fun-ext, _∙_}
@@ -18,6 +18,7 @@ use Rattle.acceptance.specs.Kept.{keptScan}
 use Rattle.scene.specs.declared.Channel.{Channel}
 use Rattle.window.specs.Sums.{meansOf}
 use Rattle.window.specs.Means.{stateOf}
+use Rattle.product.specs.Scenes.{Deliver}
 use Rattle.product.specs.Product.{productOf, deliveredCount, productSize}
 use Rattle.product.proofs.Bytes.{length-product}
 use Rattle.calibrator.specs.Refusals.{delivered, refused}
@@ -27,7 +28,7 @@ use Rattle.promise.specs.Moments.{channelsAt}
 use Rattle.promise.specs.Promise.{SameScan, SameOutcome}
 use Rattle.promise.proofs.RollLaws.{scanOfAge}
 use Rattle.promise.proofs.SampleLaws.{means-at-is}
-use Rattle.promise.proofs.RolledOutcomes.{fedMoment, outcomeBy}
+use Rattle.promise.specs.Outcomes.{fedMoment, outcomeBy}
 
 refused-not-delivered : (n k : ℕ) → refused n ≡ delivered k → ⊥
 refused-not-delivered n k accepted = let clash : _≡_ {A = ℕ} 0 1 = cc in omega arith
@@ -54,33 +55,34 @@ module _ (s : Settings) where
         ∙ ap (λ (scans : ℕ → ℕ → Scan). cond (eqb (scanNumber other + k) number) (keptBy s other) (scans number k)) (h .scans)));
   }
 
+module _ (s : Settings) (deliver : ℕ → Deliver) where
   same-product : (number : ℕ) (all : List Channel) (earth rest others : List ℕ)
-      → take productSize (productOf number all earth ++ rest) ≡ take productSize (productOf number all earth ++ others)
+      → take productSize (productOf deliver number all earth ++ rest) ≡ take productSize (productOf deliver number all earth ++ others)
   same-product number all earth rest others =
-      take-at (productOf number all earth) rest productSize (length-product number all earth)
-      ∙ sym (take-at (productOf number all earth) others productSize (length-product number all earth))
+      take-at (productOf deliver number all earth) rest productSize (length-product deliver number all earth)
+      ∙ sym (take-at (productOf deliver number all earth) others productSize (length-product deliver number all earth))
 
   -- ---- one pair of feeds
   pub record SameStep (v : Verdict) (roll rolled : Roll) (feed other : Feed) : Type 0 where
-    pub outcomes : SameOutcome (outcomeBy v s roll feed) (outcomeBy v s rolled other)
-    pub rolls : SameRolls (joinedBy v roll feed) (joinedBy v rolled other)
+    pub outcomes : SameOutcome (outcomeBy s deliver v roll feed) (outcomeBy s deliver v rolled other)
+    pub rolls : SameRolls s (joinedBy v roll feed) (joinedBy v rolled other)
 
-  accepted-same : (roll rolled : Roll) (feed other : Feed) → SameScan s (feed .scan) (other .scan) → SameRolls roll rolled → SameStep passes roll rolled feed other
+  accepted-same : (roll rolled : Roll) (feed other : Feed) → SameScan s (feed .scan) (other .scan) → SameRolls s roll rolled → SameStep passes roll rolled feed other
   accepted-same roll rolled feed other e h =
-      let both = joined-same (feed .scan) (other .scan) roll rolled e h in
-      let all = same-channels (feed .scan) (other .scan) roll rolled both in
+      let both = joined-same s (feed .scan) (other .scan) roll rolled e h in
+      let all = same-channels s (feed .scan) (other .scan) roll rolled both in
       record {
         outcomes = record {
-          reply = ap₂ (λ (channels : List Channel) (earth : List ℕ). delivered (deliveredCount channels earth)) all (e .earth);
+          reply = ap₂ (λ (channels : List Channel) (earth : List ℕ). delivered (deliveredCount deliver channels earth)) all (e .earth);
           product = λ delivered-count accepted.
-              ap (λ (n : ℕ). take productSize (productOf n (channelsAt s (fedMoment roll (feed .scan))) (earthCounts (feed .scan)) ++ drop productSize (feed .buffer))) (e .number)
-              ∙ ap₂ (λ (channels : List Channel) (earth : List ℕ). take productSize (productOf (scanNumber (other .scan)) channels earth ++ drop productSize (feed .buffer))) all (e .earth)
+              ap (λ (n : ℕ). take productSize (productOf deliver n (channelsAt s (fedMoment roll (feed .scan))) (earthCounts (feed .scan)) ++ drop productSize (feed .buffer))) (e .number)
+              ∙ ap₂ (λ (channels : List Channel) (earth : List ℕ). take productSize (productOf deliver (scanNumber (other .scan)) channels earth ++ drop productSize (feed .buffer))) all (e .earth)
               ∙ same-product (scanNumber (other .scan)) (channelsAt s (fedMoment rolled (other .scan))) (earthCounts (other .scan)) (drop productSize (feed .buffer)) (drop productSize (other .buffer));
         };
         rolls = both;
       }
 
-  pub same-step : (v : Verdict) (roll rolled : Roll) (feed other : Feed) → (v ≡ passes → SameScan s (feed .scan) (other .scan)) → SameRolls roll rolled
+  pub same-step : (v : Verdict) (roll rolled : Roll) (feed other : Feed) → (v ≡ passes → SameScan s (feed .scan) (other .scan)) → SameRolls s roll rolled
       → SameStep v roll rolled feed other
   same-step passes roll rolled feed other e h = accepted-same roll rolled feed other (e refl) h
   same-step (fails n) roll rolled feed other e h = record { outcomes = record { reply = refl; product = λ k accepted. absurd (refused-not-delivered n k accepted) }; rolls = h }

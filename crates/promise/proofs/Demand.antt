@@ -1,5 +1,6 @@
--- Demand 3, entire: for every accepted table, every list of feeds and every second list. After any list of feeds the calibrator is an
--- equation of the plain roll, so that each step leaves what the roll says.
+-- Demand 3, entire: for every accepted table, every accepted bias file, every list of feeds and every second list. After any list of feeds
+-- the calibrator is an equation of the plain roll, so that each step leaves what the roll says.
+use Prim.Native.Nat.{ℕ}
 use mathlib.Core.Path.{_≡_, refl, sym, ap, subst, subst₂, _∙_}
 use mathlib.Core.List.{List, [], _∷_}
 use lib.ListN.{drop}
@@ -10,6 +11,9 @@ use Rattle.table.specs.Settings.{Settings, settingsOf}
 use Rattle.table.specs.ValueRanges.{SettingsRange}
 use Rattle.table.specs.Opening.{ages, AcceptedTable}
 use Rattle.table.proofs.OpeningLaws.{accepted-ranges}
+use Rattle.bias.specs.declared.Bias.{Bias}
+use Rattle.bias.specs.Opening.{AcceptedBias}
+use Rattle.product.specs.Scenes.{Deliver, byBias}
 use Rattle.product.proofs.Bytes.{length-product}
 use Rattle.calibrator.specs.declared.Calibrator.{Calibrator}
 use Rattle.calibrator.specs.Refusals.{delivered, refused}
@@ -22,34 +26,37 @@ use Rattle.record.specs.Record.{earthCounts}
 use Rattle.promise.specs.Promise.{AcceptedClaim, FeedClaim, Each, Alike, SameOutcome, SameProducts, DemandThree}
 use Rattle.promise.proofs.RollLaws.{NumbersTo}
 use Rattle.promise.proofs.SceneClaims.{scene-claim, delivered-in}
-use Rattle.promise.proofs.RolledOutcomes.{fedMoment, writtenAt, outcomeBy}
+use Rattle.promise.specs.Outcomes.{fedMoment, writtenAt, outcomeBy}
 use Rattle.promise.proofs.AlikeLaws.{SameRolls, same-step}
 use Rattle.promise.proofs.HistoryLaws.{calibratorOf, numbers-joined, calibrator-after, outcome-after, fresh-is-empty-roll}
 
 -- ---- one feed
-module _ (s : Settings) (range : SettingsRange s) where
-  accepted-claim : (m : Moment) (feed : Feed) (c : Calibrator) → AcceptedClaim s m feed (record { calibrator = c; outcome = writtenAt s m (feed .buffer) })
+module _ (s : Settings) (range : SettingsRange s) {bias : List ℕ} (file : AcceptedBias bias) where
+  accepted-claim : (m : Moment) (feed : Feed) (c : Calibrator) → AcceptedClaim s bias m feed (record { calibrator = c; outcome = writtenAt s (byBias bias) m (feed .buffer) })
   accepted-claim m feed c =
-      let long = length-product (currentNumber m) (channelsAt s m) (earthCounts (m .scan)) in
+      let long = length-product (byBias bias) (currentNumber m) (channelsAt s m) (earthCounts (m .scan)) in
       let rest = drop productSize (feed .buffer) in
       record {
-        product = take-at (productAt s m) rest productSize long;
-        rest = drop-at (productAt s m) rest productSize long;
-        reply = ap delivered (delivered-in s m range rest);
-        scenes = λ c i below inside. scene-claim s m c i range below inside rest;
+        product = take-at (productAt s m (byBias bias)) rest productSize long;
+        rest = drop-at (productAt s m (byBias bias)) rest productSize long;
+        reply = ap delivered (delivered-in s bias m range file rest);
+        scenes = λ c i below inside. scene-claim s bias m c i range file below inside rest;
       }
 
-module _ (table : Table) (accepted : AcceptedTable (table .bytes)) where
+module _ (table : Table) (accepted : AcceptedTable (table .bytes)) (bias : Bias) (file : AcceptedBias (bias .bytes)) where
   abbrev s : Settings
   s = settingsOf ages (table .bytes)
 
+  abbrev deliver : ℕ → Deliver
+  deliver = byBias (bias .bytes)
+
   -- a feed that leaves what the roll says meets the claim
-  claim-by : (v : Verdict) (roll : Roll) (feed : Feed) (after : Stepped) → verdictAt roll feed ≡ v → after .calibrator ≡ calibratorOf table (joinedBy v roll feed)
-      → after .outcome ≡ outcomeBy v s roll feed → FeedClaim s roll (calibratorOf table roll) feed after
+  claim-by : (v : Verdict) (roll : Roll) (feed : Feed) (after : Stepped) → verdictAt roll feed ≡ v → after .calibrator ≡ calibratorOf table bias (joinedBy v roll feed)
+      → after .outcome ≡ outcomeBy s deliver v roll feed → FeedClaim s (bias .bytes) roll (calibratorOf table bias roll) feed after
   claim-by passes roll feed after is handed left =
       let m = fedMoment roll (feed .scan) in
       record {
-        accepts = λ passed. subst (λ (o : Outcome). AcceptedClaim s m feed (record { calibrator = after .calibrator; outcome = o })) (sym left) (accepted-claim s (accepted-ranges accepted) m feed (after .calibrator));
+        accepts = λ passed. subst (λ (o : Outcome). AcceptedClaim s (bias .bytes) m feed (record { calibrator = after .calibrator; outcome = o })) (sym left) (accepted-claim s (accepted-ranges accepted) file m feed (after .calibrator));
         refuses = λ n failed. absurd (passes-is-no-failure n (sym is ∙ failed));
       }
   claim-by (fails n) roll feed after is handed left = record {
@@ -62,37 +69,37 @@ module _ (table : Table) (accepted : AcceptedTable (table .bytes)) where
   }
 
   -- ---- a list of feeds
-  each-from : (feeds : List Feed) (roll : Roll) → NumbersTo roll (lastNumber roll) → Each (FeedClaim s) roll (calibratorOf table roll) feeds
+  each-from : (feeds : List Feed) (roll : Roll) → NumbersTo roll (lastNumber roll) → Each (FeedClaim s (bias .bytes)) roll (calibratorOf table bias roll) feeds
   unfolding Each
   each-from [] roll numbers = tt
   each-from (feed ∷ more) roll numbers =
-      let handed = calibrator-after table roll feed numbers in (
-        claim-by (verdictAt roll feed) roll feed (step (calibratorOf table roll) feed) refl handed (outcome-after table roll feed numbers),
-        subst (λ (c : Calibrator). Each (FeedClaim s) (joined roll feed) c more) (sym handed) (each-from more (joined roll feed) (numbers-joined (verdictAt roll feed) roll feed refl numbers)),
+      let handed = calibrator-after table bias roll feed numbers in (
+        claim-by (verdictAt roll feed) roll feed (step (calibratorOf table bias roll) feed) refl handed (outcome-after table bias roll feed numbers),
+        subst (λ (c : Calibrator). Each (FeedClaim s (bias .bytes)) (joined roll feed) c more) (sym handed) (each-from more (joined roll feed) (numbers-joined (verdictAt roll feed) roll feed refl numbers)),
       )
 
   alike-from : (feeds others : List Feed) (roll rolled : Roll) → NumbersTo roll (lastNumber roll) → NumbersTo rolled (lastNumber rolled) → SameRolls s roll rolled
-      → Alike s roll rolled feeds others → SameProducts (calibratorOf table roll) (calibratorOf table rolled) feeds others
+      → Alike s roll rolled feeds others → SameProducts (calibratorOf table bias roll) (calibratorOf table bias rolled) feeds others
   unfolding Alike SameProducts
   alike-from [] [] roll rolled numbers others same e = tt
   alike-from [] (other ∷ rest) roll rolled numbers others same e = absurd e
   alike-from (feed ∷ more) [] roll rolled numbers others same e = absurd e
   alike-from (feed ∷ more) (other ∷ rest) roll rolled numbers others same e =
-      let both = same-step s (verdictAt roll feed) roll rolled feed other (e .0 .scans) same in
+      let both = same-step s deliver (verdictAt roll feed) roll rolled feed other (e .0 .scans) same in
       let verdicts = e .0 .verdicts in
       let rolls = subst (λ (v : Verdict). SameRolls s (joined roll feed) (joinedBy v rolled other)) verdicts (both .rolls) in (
-        subst₂ SameOutcome (sym (outcome-after table roll feed numbers))
-            (ap (λ (v : Verdict). outcomeBy v s rolled other) verdicts ∙ sym (outcome-after table rolled other others)) (both .outcomes),
-        subst₂ (λ (c d : Calibrator). SameProducts c d more rest) (sym (calibrator-after table roll feed numbers)) (sym (calibrator-after table rolled other others))
+        subst₂ SameOutcome (sym (outcome-after table bias roll feed numbers))
+            (ap (λ (v : Verdict). outcomeBy s deliver v rolled other) verdicts ∙ sym (outcome-after table bias rolled other others)) (both .outcomes),
+        subst₂ (λ (c d : Calibrator). SameProducts c d more rest) (sym (calibrator-after table bias roll feed numbers)) (sym (calibrator-after table bias rolled other others))
             (alike-from more rest (joined roll feed) (joined rolled other)
             (numbers-joined (verdictAt roll feed) roll feed refl numbers) (numbers-joined (verdictAt rolled other) rolled other refl others) rolls (e .1)),
       )
 
 pub demand-three : DemandThree
-demand-three table accepted feeds others =
+demand-three table accepted bias file feeds others =
     let s = settingsOf ages (table .bytes) in
-    let fresh = sym (fresh-is-empty-roll table) in
+    let fresh = sym (fresh-is-empty-roll table bias) in
     record {
-      each = subst (λ (c : Calibrator). Each (FeedClaim s) [] c feeds) fresh (each-from table accepted feeds [] tt);
-      alike = λ e. subst (λ (c : Calibrator). SameProducts c c feeds others) fresh (alike-from table accepted feeds others [] [] tt tt (record { last = refl; scans = refl }) e);
+      each = subst (λ (c : Calibrator). Each (FeedClaim s (bias .bytes)) [] c feeds) fresh (each-from table accepted bias file feeds [] tt);
+      alike = λ e. subst (λ (c : Calibrator). SameProducts c c feeds others) fresh (alike-from table accepted bias file feeds others [] [] tt tt (record { last = refl; scans = refl }) e);
     }

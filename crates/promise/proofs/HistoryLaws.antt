@@ -22,6 +22,8 @@ use Rattle.scene.specs.declared.Channel.{Channel}
 use Rattle.window.specs.Ages.{noScan, windowOf, windowAfter}
 use Rattle.window.specs.Means.{stateOf}
 use Rattle.window.proofs.AgeLaws.{ScanShape, gap-between, window-after-is-aged, means-of-scans}
+use Rattle.bias.specs.declared.Bias.{Bias}
+use Rattle.product.specs.Scenes.{Deliver, byBias}
 use Rattle.product.specs.Product.{productLayout, productOf, deliveredCount}
 use Rattle.calibrator.specs.declared.Calibrator.{Calibrator}
 use Rattle.calibrator.specs.Refusals.{delivered}
@@ -31,14 +33,14 @@ use Rattle.promise.specs.Moments.{channelsAt}
 use Rattle.calibrator.proofs.Verdicts.{passes-facts}
 use Rattle.promise.proofs.RollLaws.{scanOfAge, NumbersTo, aged-roll, numbers-further}
 use Rattle.promise.proofs.SampleLaws.{means-at-is}
-use Rattle.promise.proofs.RolledOutcomes.{fedMoment, outcomeBy, outcomeAt}
+use Rattle.promise.specs.Outcomes.{fedMoment, outcomeBy, outcomeAt}
 
 -- ---- the calibrator after a roll
 abbrev pub scansOf : Settings → Roll → ℕ → Scan
 scansOf s roll k = scanOfAge s roll (lastNumber roll) k
 
-abbrev pub calibratorOf : Table → Roll → Calibrator
-calibratorOf table roll = record { table = table; window = windowOf (begun roll) (lastNumber roll) (scansOf (settingsOf ages (table .bytes)) roll) }
+abbrev pub calibratorOf : Table → Bias → Roll → Calibrator
+calibratorOf table bias roll = record { table = table; bias = bias; window = windowOf (begun roll) (lastNumber roll) (scansOf (settingsOf ages (table .bytes)) roll) }
 
 pub window-same : (any : Bool) (last : ℕ) (f g : ℕ → Scan) → ((k : ℕ) → k < ages → f k ≡ g k) → windowOf any last f ≡ windowOf any last g
 unfolding windowOf
@@ -87,13 +89,16 @@ numbers-joined passes [] feed e numbers = (omega arith, tt)
 numbers-joined passes (scan ∷ roll) feed e numbers =
     (omega arith, numbers-further (scan ∷ roll) (omega (arith, passes-facts true (scanNumber scan) (feed .scan) (length (feed .buffer)) e .above refl)) numbers)
 
-module _ (table : Table) where
+module _ (table : Table) (bias : Bias) where
   abbrev tableSettings : Settings
   tableSettings = settingsOf ages (table .bytes)
 
+  abbrev biasDelivery : ℕ → Deliver
+  biasDelivery = byBias (bias .bytes)
+
   module _ (roll : Roll) (feed : Feed) (numbers : NumbersTo roll (lastNumber roll)) where
     abbrev before : Calibrator
-    before = calibratorOf table roll
+    before = calibratorOf table bias roll
 
     next-window : verdictAt roll feed ≡ passes → nextWindow before (feed .scan) ≡ windowOf true (scanNumber (feed .scan)) (scansOf tableSettings (feed .scan ∷ roll))
     next-window e = window-joined tableSettings (feed .scan) roll numbers (passes-facts (begun roll) (lastNumber roll) (feed .scan) (length (feed .buffer)) e .above)
@@ -101,29 +106,29 @@ module _ (table : Table) where
     next-channels : verdictAt roll feed ≡ passes → nextChannels before (feed .scan) ≡ channelsAt tableSettings (fedMoment roll (feed .scan))
     next-channels e = ap (channelsIn tableSettings) (next-window e) ∙ channels-joined tableSettings (omega arith) (feed .scan) roll
 
-    calibrator-by : (v : Verdict) → verdictAt roll feed ≡ v → stepBy v before feed .calibrator ≡ calibratorOf table (joinedBy v roll feed)
+    calibrator-by : (v : Verdict) → verdictAt roll feed ≡ v → stepBy v before feed .calibrator ≡ calibratorOf table bias (joinedBy v roll feed)
     unfolding stepBy
-    calibrator-by passes e = ap (λ (w : Window). record { table = table; window = w }) (next-window e)
+    calibrator-by passes e = ap (λ (w : Window). record { table = table; bias = bias; window = w }) (next-window e)
     calibrator-by (fails n) e = refl
 
-    outcome-by : (v : Verdict) → verdictAt roll feed ≡ v → stepBy v before feed .outcome ≡ outcomeBy v tableSettings roll feed
+    outcome-by : (v : Verdict) → verdictAt roll feed ≡ v → stepBy v before feed .outcome ≡ outcomeBy tableSettings biasDelivery v roll feed
     unfolding stepBy
     outcome-by passes e =
         ap (λ (all : List Channel). record {
-          reply = delivered (deliveredCount all (earthCounts (feed .scan)));
-          buffer = productOf (scanNumber (feed .scan)) all (earthCounts (feed .scan)) ++ drop (layoutSize productLayout) (feed .buffer);
+          reply = delivered (deliveredCount biasDelivery all (earthCounts (feed .scan)));
+          buffer = productOf biasDelivery (scanNumber (feed .scan)) all (earthCounts (feed .scan)) ++ drop (layoutSize productLayout) (feed .buffer);
         }) (next-channels e)
     outcome-by (fails n) e = refl
 
     -- the calibrator that is handed back is that of the roll with this feed, and the outcome is what the roll says
-    pub calibrator-after : step before feed .calibrator ≡ calibratorOf table (joined roll feed)
+    pub calibrator-after : step before feed .calibrator ≡ calibratorOf table bias (joined roll feed)
     unfolding windowOf
     calibrator-after = calibrator-by (verdictAt roll feed) refl
 
-    pub outcome-after : step before feed .outcome ≡ outcomeAt tableSettings roll feed
+    pub outcome-after : step before feed .outcome ≡ outcomeAt tableSettings biasDelivery roll feed
     unfolding windowOf
     outcome-after = outcome-by (verdictAt roll feed) refl
 
-  pub fresh-is-empty-roll : freshOf table ≡ calibratorOf table []
+  pub fresh-is-empty-roll : freshOf table bias ≡ calibratorOf table bias []
   unfolding freshOf scanOfAge
   fresh-is-empty-roll = refl

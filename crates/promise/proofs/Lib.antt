@@ -1,9 +1,9 @@
 pub mod RollLaws
 pub mod SampleLaws
-pub mod RolledOutcomes
 pub mod SceneClaims
 pub mod AlikeLaws
 pub mod HistoryLaws
 pub mod RestartLaws
 pub mod Demand
 pub mod Plain
+pub mod WithoutBiasLaws

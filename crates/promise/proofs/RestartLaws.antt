@@ -22,6 +22,8 @@ use Rattle.scene.specs.declared.Channel.{Channel}
 use Rattle.window.specs.Sums.{meansOf, meansIn}
 use Rattle.window.specs.Means.{stateOf}
 use Rattle.window.proofs.AgeLaws.{ScanShape, means-of-scans}
+use Rattle.bias.specs.declared.Bias.{Bias}
+use Rattle.product.specs.Scenes.{Deliver, byBias}
 use Rattle.product.specs.Product.{productLayout, productOf, deliveredCount}
 use Rattle.calibrator.specs.declared.Calibrator.{Calibrator}
 use Rattle.calibrator.specs.Refusals.{delivered}
@@ -32,7 +34,7 @@ use Rattle.promise.specs.Restart.{rolledBy, recent, feedsOf, Restart}
 use Rattle.calibrator.proofs.Verdicts.{verdict-passes, passes-facts}
 use Rattle.promise.proofs.RollLaws.{scanOfAge, NumbersTo}
 use Rattle.promise.proofs.SampleLaws.{means-at-is}
-use Rattle.promise.proofs.RolledOutcomes.{fedMoment, outcomeBy, outcomeAt}
+use Rattle.promise.specs.Outcomes.{fedMoment, outcomeBy, outcomeAt}
 use Rattle.promise.proofs.HistoryLaws.{calibratorOf, by-age-shape, window-same, numbers-joined, calibrator-after, outcome-after, fresh-is-empty-roll}
 
 -- ---- a roll that feeds have made: each record is well formed, and its number is above all before it
@@ -142,15 +144,18 @@ module _ (s : Settings) where
       ∙ sym (means-at-is s (fedMoment older scan) c inside)))
 
 -- ---- the law
-module _ (table : Table) where
+module _ (table : Table) (bias : Bias) where
   abbrev ofTable : Settings
   ofTable = settingsOf ages (table .bytes)
 
-  after-is : (feeds : List Feed) (roll : Roll) → NumbersTo roll (lastNumber roll) → calibratorAfter (calibratorOf table roll) feeds ≡ calibratorOf table (rolledBy roll feeds)
+  abbrev ofBias : ℕ → Deliver
+  ofBias = byBias (bias .bytes)
+
+  after-is : (feeds : List Feed) (roll : Roll) → NumbersTo roll (lastNumber roll) → calibratorAfter (calibratorOf table bias roll) feeds ≡ calibratorOf table bias (rolledBy roll feeds)
   unfolding calibratorAfter rolledBy
   after-is [] roll numbers = refl
   after-is (feed ∷ more) roll numbers =
-      ap (λ (c : Calibrator). calibratorAfter c more) (calibrator-after table roll feed numbers)
+      ap (λ (c : Calibrator). calibratorAfter c more) (calibrator-after table bias roll feed numbers)
       ∙ after-is more (joined roll feed) (numbers-joined (verdictAt roll feed) roll feed refl numbers)
 
   numbers-by : (feeds : List Feed) (roll : Roll) → NumbersTo roll (lastNumber roll) → NumbersTo (rolledBy roll feeds) (lastNumber (rolledBy roll feeds))
@@ -158,29 +163,29 @@ module _ (table : Table) where
   numbers-by [] roll numbers = numbers
   numbers-by (feed ∷ more) roll numbers = numbers-by more (joined roll feed) (numbers-joined (verdictAt roll feed) roll feed refl numbers)
 
-  left-by : (feeds : List Feed) (feed : Feed) → outcomeAfter (freshOf table) feeds feed ≡ outcomeAt ofTable (rolledBy [] feeds) feed
+  pub left-by : (feeds : List Feed) (feed : Feed) → outcomeAfter (freshOf table bias) feeds feed ≡ outcomeAt (settingsOf ages (table .bytes)) (byBias (bias .bytes)) (rolledBy [] feeds) feed
   left-by feeds feed =
-      ap (λ (c : Calibrator). step (calibratorAfter c feeds) feed .outcome) (fresh-is-empty-roll table)
+      ap (λ (c : Calibrator). step (calibratorAfter c feeds) feed .outcome) (fresh-is-empty-roll table bias)
       ∙ ap (λ (c : Calibrator). step c feed .outcome) (after-is feeds [] tt)
-      ∙ outcome-after table (rolledBy [] feeds) feed (numbers-by feeds [] tt)
+      ∙ outcome-after table bias (rolledBy [] feeds) feed (numbers-by feeds [] tt)
 
-  both-accepted : (feed : Feed) (roll : Roll) → Made roll → verdictAt roll feed ≡ passes → outcomeAt ofTable roll feed ≡ outcomeAt ofTable (recent (scanNumber (feed .scan)) roll) feed
+  both-accepted : (feed : Feed) (roll : Roll) → Made roll → verdictAt roll feed ≡ passes → outcomeAt ofTable ofBias roll feed ≡ outcomeAt ofTable ofBias (recent (scanNumber (feed .scan)) roll) feed
   both-accepted feed roll made e =
       let number = scanNumber (feed .scan) in
       let passed = passes-facts (begun roll) (lastNumber roll) (feed .scan) (length (feed .buffer)) e in
       let older = below-when-last roll number made (passed .above) in
       let again : verdictAt (recent number roll) feed ≡ passes = verdict-passes (begun (recent number roll)) (lastNumber (recent number roll)) (feed .scan) (length (feed .buffer)) (passed .long) (passed .right) (last-when-below (recent number roll) number (recent-below number roll number older)) (passed .room) in
-      ap (λ (v : Verdict). outcomeBy v ofTable roll feed) e
-      ∙ ap (λ (all : List Channel). record { reply = delivered (deliveredCount all (earthCounts (feed .scan))); buffer = productOf number all (earthCounts (feed .scan)) ++ drop (layoutSize productLayout) (feed .buffer) }) (channels-recent ofTable (omega arith) (feed .scan) roll)
-      ∙ sym (ap (λ (v : Verdict). outcomeBy v ofTable (recent number roll) feed) again)
+      ap (λ (v : Verdict). outcomeBy ofTable ofBias v roll feed) e
+      ∙ ap (λ (all : List Channel). record { reply = delivered (deliveredCount ofBias all (earthCounts (feed .scan))); buffer = productOf ofBias number all (earthCounts (feed .scan)) ++ drop (layoutSize productLayout) (feed .buffer) }) (channels-recent ofTable (omega arith) (feed .scan) roll)
+      ∙ sym (ap (λ (v : Verdict). outcomeBy ofTable ofBias v (recent number roll) feed) again)
 
-  pub restart : Restart (freshOf table)
+  pub restart : Restart (freshOf table bias)
   restart = record {
     same = λ before feed buffer room e.
         let roll = rolledBy [] before in
         let number = scanNumber (feed .scan) in
         left-by before feed
         ∙ both-accepted feed roll (made-by before [] tt) e
-        ∙ ap (λ (r : Roll). outcomeAt ofTable r feed) (sym (again-rolls buffer room (recent number roll) (recent-made number roll (made-by before [] tt))))
+        ∙ ap (λ (r : Roll). outcomeAt ofTable ofBias r feed) (sym (again-rolls buffer room (recent number roll) (recent-made number roll (made-by before [] tt))))
         ∙ sym (left-by (feedsOf buffer (recent number roll)) feed);
   }

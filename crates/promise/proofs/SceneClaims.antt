@@ -1,7 +1,7 @@
--- The scenes of an accepted feed: one is delivered exactly when the rules say, and is then exactly T, at most 2 units from E, which is what
--- equations 25 to 29 give. Read from the product's bytes: the word of a scene is the bits of the scene that the channel's flag and
--- constants give.
-use Prim.Native.Nat.{ℕ, zero, suc, _+_, _*_, _<_, _≤_}
+-- The scenes of an accepted feed: one is delivered exactly when the rules say, and is then exactly what scan bias makes of T, at most 7/2 units
+-- from equation 30 over E, which is what equations 25 to 29 give. Read from the product's bytes: the word of a scene is the bits of the scene
+-- that the channel's flag and constants give.
+use Prim.Native.Nat.{ℕ, _+_, _*_, _<_, _≤_}
 use native.Mathlib.Omega.{arith}
 use mathlib.Core.Path.{_≡_, refl, sym, ap, subst, subst₂, _∙_}
 use mathlib.Core.List.{List, [], _∷_, _++_}
@@ -10,7 +10,7 @@ use mathlib.Core.Logic.{inl}
 use lib.Dec.{eqb}
 use lib.IntN.{ℤ, pos, natAbs, _-ℤ_, _*ℤ_}
 use lib.Signed.{_≤ℤ_, _<ℤ_}
-use lib.ListN.{getD, replicate}
+use lib.ListN.{getD}
 use lib.Ieee.{Float, binary32, ofBits}
 use borrow.Author.Tests.{eqb-true, eq-eqb, ne-eqb}
 use Rattle.integers.specs.Fractions.{_/ᶠ_, whole, _-ᶠ_, Equal, Near, Distance}
@@ -22,6 +22,7 @@ use Rattle.fields.specs.Numbers.{u16At}
 use Rattle.lists.proofs.Tabulate.{getD-tabulate}
 use Rattle.lists.proofs.Sum.{sum-same}
 use Rattle.lists.proofs.Count.{count-same}
+use Rattle.lists.proofs.Elements.{zero-of-zeros}
 use Rattle.table.specs.Settings.{Settings}
 use Rattle.instrument.specs.Instrument.{channels, targetOf, positions, thermometers}
 use Rattle.table.specs.ValueRanges.{SettingsRange}
@@ -33,8 +34,7 @@ use Rattle.scene.specs.declared.Channel.{Channel}
 use Rattle.window.specs.Ages.{noScan}
 use Rattle.window.specs.Sums.{meansFrom}
 use Rattle.window.specs.Means.{Tw, Tc, D, flagOf, constantsOf, stateOf}
-use Rattle.window.proofs.AgeLaws.{kelvin-none-or-at-least}
-use Rattle.window.proofs.SumLaws.{target-sum-at-least}
+use Rattle.window.proofs.ConstantsLaws.{MeanWithin, kelvin-sums, temperatures-within}
 use Rattle.window.proofs.FlagLaws.{Unflagged, unflagged-flag-zero, flag-zero-unflagged, flag-zero-weights-above, flag-zero-warm-above, flag-zero-cold-above}
 use Rattle.scene.specs.declared.Constants.{Constants}
 use Rattle.scene.specs.declared.Scene.{Scene}
@@ -42,18 +42,24 @@ use Rattle.scene.specs.declared.Scene.the-variants.{Kelvin, Flagged, Outside, G
 use Rattle.scene.specs.Scene.{kelvin, bits, unitsOf, numerator, sceneOf}
 use Rattle.scene.specs.Temperature.{temperature}
 use Rattle.scene.specs.Unrounded.{unroundedTw}
-use Rattle.scene.proofs.Delivered.{Passes, temperatureOf, N-is-numerator, delivered-exactly-when}
+use Rattle.scene.proofs.Delivered.{Passes, temperatureOf, WithinGuard, N-is-numerator, delivered-exactly-when}
+use Rattle.scene.proofs.Ranges.{SceneRange}
+use Rattle.scene.proofs.BiasDistance.{biased-distance}
 use Rattle.scene.proofs.Distance.{temperature-distance, one-above}
 use Rattle.scene.proofs.Equations.{corrected-same}
 use Rattle.scene.proofs.Exact.{units-of-kelvin, kelvin-bits-back, kelvin-bits-not-flagged, kelvin-bits-not-outside, kelvin-bits-not-guard}
-use Rattle.product.specs.Scenes.{sceneIn, sceneAt, noChannel, delivered}
+use Rattle.bias.specs.Bias.{biasPart, c0In}
+use Rattle.bias.specs.Opening.{AcceptedBias}
+use Rattle.bias.specs.Ranges.{PairRange}
+use Rattle.bias.proofs.RangeLaws.{accepted-bias-ranges}
+use Rattle.product.specs.Scenes.{byBias, sceneIn, sceneAt, noChannel, delivered}
 use Rattle.product.specs.Product.{deliveredCount}
 use Rattle.product.proofs.Bytes.{scene-in-product}
-use Rattle.product.proofs.SceneLaws.{temperature-in-units}
+use Rattle.product.proofs.SceneLaws.{InUnitsBy, temperature-in-units, e-bounded, units-by-bias}
 use Rattle.product.proofs.SummaryLaws.{delivered-count}
 use Rattle.calibrator.specs.Feeding.{keptBy}
 use Rattle.promise.specs.Roll.{Roll}
-use Rattle.promise.specs.Moments.{Moment, currentNumber, meansAt, channelsAt, productAt, ByTheRules, SceneClaim, isDelivered, deliveredIn, wordAt, unitsAt, nAt, tAt, eAt, equationsAt}
+use Rattle.promise.specs.Moments.{Moment, currentNumber, meansAt, channelsAt, productAt, ByTheRules, SceneClaim, isDelivered, deliveredIn, wordAt, unitsAt, nAt, tAt, eAt, deliveredAt, biasedEAt, equationsAt}
 use Rattle.promise.proofs.RollLaws.{scanOfAge}
 use Rattle.promise.proofs.SampleLaws.{scansAt, means-at-is}
 
@@ -66,12 +72,13 @@ mark-guard : isDelivered (bits Guard) ≡ false
 unfolding bits
 mark-guard = refl
 
-pub bits-delivered : (channel : Channel) (count : ℕ) → isDelivered (bits (sceneIn channel count)) ≡ delivered (sceneIn channel count)
-bits-delivered channel count = tested (sceneIn channel count) refl
+pub bits-delivered : (deliver : ℤ → ℤ) (channel : Channel) → InUnitsBy deliver channel → (count : ℕ)
+    → isDelivered (bits (sceneIn deliver channel count)) ≡ delivered (sceneIn deliver channel count)
+bits-delivered deliver channel units count = tested (sceneIn deliver channel count) refl
   where
-    tested : (x : Scene) → x ≡ sceneIn channel count → isDelivered (bits x) ≡ delivered x
+    tested : (x : Scene) → x ≡ sceneIn deliver channel count → isDelivered (bits x) ≡ delivered x
     tested (Kelvin x) e =
-        let u = temperature-in-units channel count x (sym e) in
+        let u = temperature-in-units deliver channel count units x (sym e) in
         let word = bits (Kelvin (kelvin (u .units))) in
         subst (λ (y : Float). isDelivered (bits (Kelvin y)) ≡ true) (sym (u .same))
         (rw (ne-eqb word (bits Flagged) (kelvin-bits-not-flagged (u .units) (u .low) (u .high)), ne-eqb word (bits Outside) (kelvin-bits-not-outside (u .units) (u .low) (u .high)), ne-eqb word (bits Guard) (kelvin-bits-not-guard (u .units) (u .low) (u .high))))
@@ -79,15 +86,10 @@ bits-delivered channel count = tested (sceneIn channel count) refl
     tested Outside e = mark-outside
     tested Guard e = mark-guard
 
--- ---- Tw is above Tc: every T is at least 873,062
-all-zero : (n i : ℕ) → getD {A = ℕ} (replicate n 0) i 0 ≡ 0
-all-zero zero i = refl
-all-zero (suc n) zero = refl
-all-zero (suc n) (suc i) = all-zero n i
-
+-- ---- every T is from 873,062 to 1,364,582, so that Tw is above Tc
 no-scan-kelvins : (i : ℕ) → KelvinRange (getD (noScan .kelvin) i 0)
 unfolding noScan
-no-scan-kelvins i = inl (all-zero thermometers i)
+no-scan-kelvins i = inl (zero-of-zeros thermometers i)
 
 by-age-kelvins : (s : Settings) (roll : Roll) (number k i : ℕ) → KelvinRange (getD (scanOfAge s roll number k .kelvin) i 0)
 unfolding scanOfAge
@@ -98,21 +100,26 @@ by-age-kelvins s (scan ∷ roll) number k i = go (eqb (scanNumber scan + k) numb
     go true older = kept-scan-kelvins s scan i
     go false older = older
 
-weighted-least : (s : Settings) (m : Moment) (c : ℕ) → c < channels → meansAt s m c .weights * leastKelvin ≤ meansAt s m c .weighted
+mean-at : (s : Settings) (m : Moment) (c : ℕ) → c < channels → MeanWithin (meansAt s m c)
 unfolding meansFrom
-weighted-least s m c below =
-    subst (λ (sums : Means). sums .weights * leastKelvin ≤ sums .weighted) (sym (means-at-is s m c below))
-    (target-sum-at-least s (targetOf c) (λ k i. getD (scansAt s m k .kelvin) i 0) leastKelvin
-    (λ k i. kelvin-none-or-at-least (by-age-kelvins s (m .standing) (currentNumber m) k i)))
+mean-at s m c below =
+    let sums = kelvin-sums s (targetOf c) (λ k i. getD (scansAt s m k .kelvin) i 0) (λ k i. by-age-kelvins s (m .standing) (currentNumber m) k i) in
+    subst MeanWithin (sym (means-at-is s m c below)) (record { weighted-low = sums .low; weighted-high = sums .high })
 
 -- ---- the scene of a channel with this flag and these constants
-flag-zero-scene : (s : Settings) (c count : ℕ) (m : Means) → flagOf s (targetOf c) m ≡ 0 → sceneIn (stateOf s c m) count ≡ sceneOf (constantsOf m (s .channel c)) count
-unfolding sceneIn stateOf
-flag-zero-scene s c count m e = rw e
+module _ (s : Settings) (c : ℕ) (m : Means) where
+  flag-zero-scene : (deliver : ℤ → ℤ) (count : ℕ) → flagOf s (targetOf c) m ≡ 0 → sceneIn deliver (stateOf s c m) count ≡ sceneOf deliver (constantsOf m (s .channel c)) count
+  unfolding sceneIn stateOf
+  flag-zero-scene deliver count e = rw e
 
-flagged-scene : (s : Settings) (c count : ℕ) (m : Means) → eqb (flagOf s (targetOf c) m) 0 ≡ false → sceneIn (stateOf s c m) count ≡ Flagged
-unfolding sceneIn stateOf
-flagged-scene s c count m e = rw e
+  flagged-scene : (deliver : ℤ → ℤ) (count : ℕ) → eqb (flagOf s (targetOf c) m) 0 ≡ false → sceneIn deliver (stateOf s c m) count ≡ Flagged
+  unfolding sceneIn stateOf
+  flagged-scene deliver count e = rw e
+
+  -- what holds of the constants of a channel with flag 0 holds of its state
+  flag-zero-constants : (P : Constants → Type 0) → (flagOf s (targetOf c) m ≡ 0 → P (constantsOf m (s .channel c))) → stateOf s c m .flag ≡ 0 → P (stateOf s c m .constants)
+  unfolding stateOf
+  flag-zero-constants P holds e = rw (eq-eqb (flagOf s (targetOf c) m) 0 e) (holds e)
 
 -- ---- the rules of document 01 are flag 0 and the tests of a scene
 module _ (s : Settings) (m : Moment) (c i : ℕ) where
@@ -158,102 +165,146 @@ module _ (s : Settings) (m : Moment) (c i : ℕ) where
     guardHigh = subst (λ t. t ≤ℤ pos 16777215) (sym t-is-temperature) (p .guard-high);
   }
 
-  -- the scene of the count
-  abbrev scene : Scene
-  scene = sceneIn (stateOf s c means) count
+  -- T of any count that passes the tests is in its range
+  passes-range : SettingsRange s → c < channels → flagOf s (targetOf c) means ≡ 0 → (count : ℕ) → Passes constants count
+      → SceneRange (constants .tc) (constants .rise) (constants .tnl) (constants .d) (numerator constants count)
+  unfolding constantsOf
+  passes-range range below zero-flag count passed =
+      let within = temperatures-within (mean-at s m c below) (range .channel c below) (flag-zero-weights-above range (targetOf c) means zero-flag) in
+      record {
+        tc-low = within .tc-low;
+        tc-high = within .tc-high;
+        rise-low = within .rise-low;
+        rise-high = within .rise-high;
+        tnl-bounded = range .channel c below .tnl;
+        d-above = flag-zero-unflagged s (targetOf c) means zero-flag .d;
+        n-low = passed .not-negative;
+        n-high = passed .not-above;
+      }
 
-  -- by the rules it is T
-  rules-scene : ByTheRules s m c i → scene ≡ Kelvin (kelvin (natAbs (temperatureOf constants count)))
-  rules-scene h =
-      flag-zero-scene s c count means (unflagged-flag-zero s (targetOf c) means (rules-unflagged h))
-      ∙ delivered-exactly-when constants count .1 (rules-pass h) .0
+  -- ---- the scene of the count, whatever is delivered for T
+  module _ (deliver : ℤ → ℤ) where
+    abbrev scene : Scene
+    scene = sceneIn deliver (stateOf s c means) count
 
-  -- and only by the rules is it a temperature
-  scene-rules : (flag : Bool) → eqb (flagOf s (targetOf c) means) 0 ≡ flag → (x : Float) → scene ≡ Kelvin x → ByTheRules s m c i
-  scene-rules true unflagged x e =
-      let none = eqb-true (flagOf s (targetOf c) means) 0 unflagged in
-      pass-rules (flag-zero-unflagged s (targetOf c) means none)
-      (delivered-exactly-when constants count .0 x (sym (flag-zero-scene s c count means none) ∙ e))
-  scene-rules false some x e = absurd (clash (sym (flagged-scene s c count means some) ∙ e))
-    where
-      clash : Flagged ≡ Kelvin x → ⊥
-      clash q = let z : _≡_ {A = ℕ} 0 1 = cc in omega arith
+    -- by the rules it is what is delivered for T
+    rules-scene : ByTheRules s m c i → scene ≡ Kelvin (kelvin (natAbs (deliver (temperatureOf constants count))))
+    rules-scene h =
+        flag-zero-scene s c means deliver count (unflagged-flag-zero s (targetOf c) means (rules-unflagged h))
+        ∙ delivered-exactly-when deliver constants count .1 (rules-pass h)
 
-  delivered-rules : (t : Scene) → t ≡ scene → delivered t ≡ true → ByTheRules s m c i
-  delivered-rules (Kelvin x) e d = scene-rules (eqb (flagOf s (targetOf c) means) 0) refl x (sym e)
-  delivered-rules Flagged e d = absurd (false≢true d)
-  delivered-rules Outside e d = absurd (false≢true d)
-  delivered-rules Guard e d = absurd (false≢true d)
+    -- and only by the rules is it a temperature
+    scene-rules : (flag : Bool) → eqb (flagOf s (targetOf c) means) 0 ≡ flag → (x : Float) → scene ≡ Kelvin x → ByTheRules s m c i
+    scene-rules true unflagged x e =
+        let none = eqb-true (flagOf s (targetOf c) means) 0 unflagged in
+        pass-rules (flag-zero-unflagged s (targetOf c) means none)
+        (delivered-exactly-when deliver constants count .0 x (sym (flag-zero-scene s c means deliver count none) ∙ e))
+    scene-rules false some x e = absurd (clash (sym (flagged-scene s c means deliver count some) ∙ e))
+      where
+        clash : Flagged ≡ Kelvin x → ⊥
+        clash q = let z : _≡_ {A = ℕ} 0 1 = cc in omega arith
 
-  -- ---- and the product's bytes
-  module _ (range : SettingsRange s) (below : c < channels) (inside : i < positions) (rest : List ℕ) where
-    abbrev product : List ℕ
-    product = productAt s m ++ rest
+    delivered-rules : (t : Scene) → t ≡ scene → delivered t ≡ true → ByTheRules s m c i
+    delivered-rules (Kelvin x) e d = scene-rules (eqb (flagOf s (targetOf c) means) 0) refl x (sym e)
+    delivered-rules Flagged e d = absurd (false≢true d)
+    delivered-rules Outside e d = absurd (false≢true d)
+    delivered-rules Guard e d = absurd (false≢true d)
 
-    word-is : wordAt product c i ≡ bits scene
-    word-is =
-        scene-in-product (currentNumber m) (channelsAt s m) (earthCounts (m .scan)) rest c below i inside
-        ∙ ap (λ (channel : Channel). bits (sceneAt channel (earthPart (earthCounts (m .scan)) c) i)) (getD-tabulate (λ c. stateOf s c (meansAt s m c)) channels c noChannel below)
+-- ---- and the product's bytes
+module _ (s : Settings) (bias : List ℕ) (m : Moment) (c i : ℕ) (range : SettingsRange s) (file : AcceptedBias bias) (below : c < channels) (inside : i < positions) (rest : List ℕ) where
+  abbrev sums : Means
+  sums = meansAt s m c
 
-    word-delivered : isDelivered (wordAt product c i) ≡ delivered scene
-    word-delivered = ap isDelivered word-is ∙ bits-delivered (stateOf s c means) count
+  abbrev ofChannel : Constants
+  ofChannel = constants s m c i
 
-    rules : isDelivered (wordAt product c i) ≡ true → ByTheRules s m c i
-    rules h = delivered-rules scene refl (sym word-delivered ∙ h)
+  abbrev sceneCount : ℕ
+  sceneCount = count s m c i
 
-    delivers : ByTheRules s m c i → isDelivered (wordAt product c i) ≡ true
-    delivers h = word-delivered ∙ ap delivered (rules-scene h)
+  abbrev deliver : ℤ → ℤ
+  deliver = byBias bias c i
 
-    -- the f32 is that of T
-    float-is : (h : ByTheRules s m c i) → ofBits binary32 (wordAt product c i) ≡ kelvin (natAbs (temperatureOf constants count))
-    unfolding bits
-    float-is h = ap (ofBits binary32) (word-is ∙ ap bits (rules-scene h)) ∙ kelvin-bits-back (natAbs (temperatureOf constants count))
+  abbrev pair : PairRange (biasPart bias c) i
+  pair = accepted-bias-ranges file c below i inside
 
-    -- 4096 times the f32 is T
-    exactly : (h : ByTheRules s m c i) → Equal (unitsAt product c i) (whole (tAt s m c i))
-    exactly h =
-        let guard = delivered-exactly-when constants count .1 (rules-pass h) .1 in
-        let t = natAbs (temperatureOf constants count) in
-        subst₂ (λ (x : Float) (z : ℤ). Equal (unitsOf x) (whole z)) (sym (float-is h)) (guard .same ∙ sym t-is-temperature) (units-of-kelvin t (guard .low) (guard .high))
+  -- what is delivered is a whole number of units whose f32 is exact
+  in-units : InUnitsBy deliver (stateOf s c sums)
+  in-units = record {
+    within = flag-zero-constants s c sums (λ k. (n : ℕ) → Passes k n → WithinGuard (deliver (temperatureOf k n)))
+        (λ zero-flag n passed. units-by-bias pair (passes-range s m c i range below zero-flag n passed));
+  }
 
-    distance-of-t : (h : ByTheRules s m c i) → Distance (pos 2 /ᶠ pos 1) (tAt s m c i) (eAt s m c i)
-    distance-of-t h =
-        temperature-distance (Tc (s .channel c)) (s .channel c .tnl) (pos (means .weighted)) (pos (means .weights)) (s .channel c .b) (h .warmAboveCold) (h .notBelow) (h .notAbove) (range .channel c below .tnl)
-        (natural-below (flag-zero-weights-above range (targetOf c) means (unflagged-flag-zero s (targetOf c) means (rules-unflagged h))))
+  abbrev product : List ℕ
+  product = productAt s m (byBias bias) ++ rest
 
-    near-e : (h : ByTheRules s m c i) → Near (pos 2 /ᶠ pos 1) (unitsAt product c i) (eAt s m c i)
-    near-e h = near-of-distance (exactly h) (distance-of-t h)
+  word-is : wordAt product c i ≡ bits (scene s m c i deliver)
+  word-is =
+      scene-in-product (byBias bias) (currentNumber m) (channelsAt s m) (earthCounts (m .scan)) rest c below i inside
+      ∙ ap (λ (channel : Channel). bits (sceneAt (byBias bias c) channel (earthPart (earthCounts (m .scan)) c) i)) (getD-tabulate (λ c. stateOf s c (meansAt s m c)) channels c noChannel below)
 
-    -- E by the equations
-    flag-zero : ByTheRules s m c i → flagOf s (targetOf c) means ≡ 0
-    flag-zero h = unflagged-flag-zero s (targetOf c) means (rules-unflagged h)
+  word-delivered : isDelivered (wordAt product c i) ≡ delivered (scene s m c i deliver)
+  word-delivered = ap isDelivered word-is ∙ bits-delivered deliver (stateOf s c sums) in-units sceneCount
 
-    rise-above : (h : ByTheRules s m c i) → pos 0 <ℤ (unroundedTw (pos (means .weighted)) (pos (means .weights)) (s .channel c .b) -ᶠ whole (Tc (s .channel c))) .num
-    rise-above h =
-        let row = range .channel c below in
-        let least : leastKelvin * means .weights ≤ means .weighted = omega (arith, weighted-least s m c below) in
-        let cold : 11166 + s .channel c .rj + s .channel c .sl ≤ 43934 = omega (arith, row .rj, row .sl) in
-        lt-by ((pos (means .weighted)) ∷ (pos (means .weights)) ∷ (s .channel c .b) ∷ (Tc (s .channel c)) ∷ [])
-        ((# 0 :< v1) ∷ (# 873062 :* v1 :≤ v0) ∷ (opp (# 4096) :≤ v2) ∷ (v3 :≤ # 43934) ∷ [])
-        (# 0) ((v0 :* # 1 :+ v2 :* v1) :* # 1 :- v3 :* (v1 :* # 1))
-        (hyp 0 ⊕ nat 825032 ⊗ hyp 1 ⊕ hyp 2 ⊕ hyp 3 ⊕ hyp 4 ⊕ hyp 1 ⊗ hyp 3 ⊕ hyp 1 ⊗ hyp 4)
-        tt (natural-below (flag-zero-weights-above range (targetOf c) means (flag-zero h))) (natural-at-most least) (row .b .low) (natural-at-most cold)
+  rules : isDelivered (wordAt product c i) ≡ true → ByTheRules s m c i
+  rules h = delivered-rules s m c i deliver (scene s m c i deliver) refl (sym word-delivered ∙ h)
 
-    by-equations : (h : ByTheRules s m c i) → Equal (equationsAt s m c i) (eAt s m c i)
-    by-equations h =
-        let z = flag-zero h in
-        corrected-same (pos (means .aw)) (pos (means .ac)) (pos count) (Tc (s .channel c)) (s .channel c .tnl) (unroundedTw (pos (means .weighted)) (pos (means .weights)) (s .channel c .b))
-        (natural-below (flag-zero-warm-above range (targetOf c) means z)) (natural-below (flag-zero-cold-above range (targetOf c) means z)) (h .warmAboveCold)
-        (product-above (natural-below (flag-zero-weights-above range (targetOf c) means z)) one-above) (rise-above h)
+  delivers : ByTheRules s m c i → isDelivered (wordAt product c i) ≡ true
+  delivers h = word-delivered ∙ ap delivered (rules-scene s m c i deliver h)
 
-    pub scene-claim : SceneClaim s m product c i
-    scene-claim = record { rules = rules; delivers = delivers; exact = λ h. exactly (rules h); distance = λ h. near-e (rules h); equations = λ h. by-equations (rules h) }
+  flag-zero : ByTheRules s m c i → flagOf s (targetOf c) sums ≡ 0
+  flag-zero h = unflagged-flag-zero s (targetOf c) sums (rules-unflagged s m c i h)
+
+  -- the f32 is that of the delivered temperature
+  float-is : (h : ByTheRules s m c i) → ofBits binary32 (wordAt product c i) ≡ kelvin (natAbs (deliver (temperatureOf ofChannel sceneCount)))
+  unfolding bits
+  float-is h = ap (ofBits binary32) (word-is ∙ ap bits (rules-scene s m c i deliver h)) ∙ kelvin-bits-back (natAbs (deliver (temperatureOf ofChannel sceneCount)))
+
+  -- 4096 times the f32 is the delivered temperature
+  exactly : (h : ByTheRules s m c i) → Equal (unitsAt product c i) (whole (deliveredAt s m c i bias))
+  exactly h =
+      let within = units-by-bias pair (passes-range s m c i range below (flag-zero h) sceneCount (rules-pass s m c i h)) in
+      subst₂ (λ (x : Float) (z : ℤ). Equal (unitsOf x) (whole z)) (sym (float-is h)) (within .same ∙ sym (ap deliver (t-is-temperature s m c i)))
+      (units-of-kelvin (natAbs (deliver (temperatureOf ofChannel sceneCount))) (within .low) (within .high))
+
+  weights-above : ByTheRules s m c i → pos 0 <ℤ pos (sums .weights)
+  weights-above h = natural-below (flag-zero-weights-above range (targetOf c) sums (flag-zero h))
+
+  -- T is at most 2 units from E
+  distance-of-t : (h : ByTheRules s m c i) → Distance (pos 2 /ᶠ pos 1) (tAt s m c i) (eAt s m c i)
+  distance-of-t h =
+      temperature-distance (Tc (s .channel c)) (s .channel c .tnl) (pos (sums .weighted)) (pos (sums .weights)) (s .channel c .b) (h .warmAboveCold) (h .notBelow) (h .notAbove) (range .channel c below .tnl)
+      (weights-above h)
+
+  near-e : (h : ByTheRules s m c i) → Near (pos 7 /ᶠ pos 2) (unitsAt product c i) (biasedEAt s m c i bias)
+  near-e h = near-of-distance (exactly h) (biased-distance (c0In (biasPart bias c) i) (e-bounded pair) one-above (distance-of-t h))
+
+  -- E by the equations
+  rise-above : (h : ByTheRules s m c i) → pos 0 <ℤ (unroundedTw (pos (sums .weighted)) (pos (sums .weights)) (s .channel c .b) -ᶠ whole (Tc (s .channel c))) .num
+  rise-above h =
+      let row = range .channel c below in
+      let least : leastKelvin * sums .weights ≤ sums .weighted = omega (arith, mean-at s m c below .weighted-low) in
+      let cold : 11166 + s .channel c .rj + s .channel c .sl ≤ 43934 = omega (arith, row .rj, row .sl) in
+      lt-by ((pos (sums .weighted)) ∷ (pos (sums .weights)) ∷ (s .channel c .b) ∷ (Tc (s .channel c)) ∷ [])
+      ((# 0 :< v1) ∷ (# 873062 :* v1 :≤ v0) ∷ (opp (# 4096) :≤ v2) ∷ (v3 :≤ # 43934) ∷ [])
+      (# 0) ((v0 :* # 1 :+ v2 :* v1) :* # 1 :- v3 :* (v1 :* # 1))
+      (hyp 0 ⊕ nat 825032 ⊗ hyp 1 ⊕ hyp 2 ⊕ hyp 3 ⊕ hyp 4 ⊕ hyp 1 ⊗ hyp 3 ⊕ hyp 1 ⊗ hyp 4)
+      tt (weights-above h) (natural-at-most least) (row .b .low) (natural-at-most cold)
+
+  by-equations : (h : ByTheRules s m c i) → Equal (equationsAt s m c i) (eAt s m c i)
+  by-equations h =
+      let z = flag-zero h in
+      corrected-same (pos (sums .aw)) (pos (sums .ac)) (pos sceneCount) (Tc (s .channel c)) (s .channel c .tnl) (unroundedTw (pos (sums .weighted)) (pos (sums .weights)) (s .channel c .b))
+      (natural-below (flag-zero-warm-above range (targetOf c) sums z)) (natural-below (flag-zero-cold-above range (targetOf c) sums z)) (h .warmAboveCold)
+      (product-above (weights-above h) one-above) (rise-above h)
+
+  pub scene-claim : SceneClaim s bias m (productAt s m (byBias bias) ++ rest) c i
+  scene-claim = record { rules = rules; delivers = delivers; exact = λ h. exactly (rules h); distance = λ h. near-e (rules h); equations = λ h. by-equations (rules h) }
 
 -- the delivered scenes of a product are as many as its answer says
-module _ (s : Settings) (m : Moment) (range : SettingsRange s) (rest : List ℕ) where
-  pub delivered-in : deliveredCount (channelsAt s m) (earthCounts (m .scan)) ≡ deliveredIn (productAt s m ++ rest)
+module _ (s : Settings) (bias : List ℕ) (m : Moment) (range : SettingsRange s) (file : AcceptedBias bias) (rest : List ℕ) where
+  pub delivered-in : deliveredCount (byBias bias) (channelsAt s m) (earthCounts (m .scan)) ≡ deliveredIn (productAt s m (byBias bias) ++ rest)
   delivered-in =
-      delivered-count (channelsAt s m) (earthCounts (m .scan))
+      delivered-count (byBias bias) (channelsAt s m) (earthCounts (m .scan))
       ∙ sum-same _ _ channels (λ c below. count-same _ _ positions (λ i inside.
-      ap (λ (channel : Channel). delivered (sceneAt channel (earthPart (earthCounts (m .scan)) c) i)) (getD-tabulate (λ c. stateOf s c (meansAt s m c)) channels c noChannel below)
-      ∙ sym (word-delivered s m c i range below inside rest)))
+      ap (λ (channel : Channel). delivered (sceneAt (byBias bias c) channel (earthPart (earthCounts (m .scan)) c) i)) (getD-tabulate (λ c. stateOf s c (meansAt s m c)) channels c noChannel below)
+      ∙ sym (word-delivered s bias m c i range file below inside rest)))

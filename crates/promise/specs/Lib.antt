@@ -3,3 +3,5 @@ pub mod Samples
 pub mod Moments
 pub mod Promise
 pub mod Restart
+pub mod Outcomes
+pub mod WithoutBias

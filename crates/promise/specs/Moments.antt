@@ -1,5 +1,5 @@
--- Document 01, "Lists of feeds" and demand 3, of one moment: the records that stand, and the record whose scenes are meant. Every product
--- is made of one moment and the table.
+-- Document 01, "Lists of feeds" and demand 3, and request W1, of one moment: the records that stand, and the record whose scenes are meant.
+-- Every product is made of one moment, the table and the bias file.
 use Prim.Native.Nat.{ℕ, _+_, _*_, _<_}
 use mathlib.Core.Path.{_≡_}
 use mathlib.Core.List.{List}
@@ -24,7 +24,9 @@ use Rattle.window.specs.Means.{Tw, Tc, D, tooFewThermometers, tooFewCounts, sta
 use Rattle.scene.specs.declared.Scene.the-variants.{Flagged, Outside, Guard}
 use Rattle.scene.specs.Scene.{bits, unitsOf}
 use Rattle.scene.specs.Temperature.{N, temperature}
-use Rattle.scene.specs.Unrounded.{E, unroundedTw, meanCount, corrected}
+use Rattle.scene.specs.Unrounded.{E, unroundedTw, biasedE, meanCount, corrected}
+use Rattle.bias.specs.Bias.{biasPart, c0In, eIn}
+use Rattle.product.specs.Scenes.{Deliver, byBias}
 use Rattle.product.specs.Product.{productLayout, stretchSize, productOf}
 use Rattle.promise.specs.Roll.{Roll}
 use Rattle.promise.specs.Samples.{samplesOfAge, sumsOf}
@@ -46,8 +48,8 @@ module _ (s : Settings) (m : Moment) where
   abbrev pub channelsAt : List Channel
   channelsAt = tabulate (λ c. stateOf s c (meansAt c)) channels
 
-  abbrev pub productAt : List ℕ
-  productAt = productOf (currentNumber m) channelsAt (earthCounts (m .scan))
+  abbrev pub productAt : (ℕ → Deliver) → List ℕ
+  productAt deliver = productOf deliver (currentNumber m) channelsAt (earthCounts (m .scan))
 
 -- ---- the numbers of a scene, position i of channel c
 module _ (s : Settings) (m : Moment) (c i : ℕ) where
@@ -73,6 +75,13 @@ module _ (s : Settings) (m : Moment) (c i : ℕ) where
   abbrev pub equationsAt : Fraction
   equationsAt =
       let sums = meansAt s m c in corrected (meanCount (pos (sums .aw)) (pos (sums .ww))) (meanCount (pos (sums .ac)) (pos (sums .wc))) unroundedTwAt (whole (Tc (s .channel c))) (whole (s .channel c .tnl)) (whole countAt)
+
+  -- with scan bias: what is delivered for T, and equation 30 over E
+  abbrev pub deliveredAt : (bias : List ℕ) → ℤ
+  deliveredAt bias = byBias bias c i tAt
+
+  abbrev pub biasedEAt : (bias : List ℕ) → Fraction
+  biasedEAt bias = let part = biasPart bias c in biasedE (c0In part i) (eIn part i) eAt
 
   -- the three weight sums suffice, the mean warm count is above the mean cold, the scene lies from 0 to 1.25, and the guard passes
   pub record ByTheRules : Type 0 where
@@ -102,13 +111,13 @@ abbrev pub unitsAt : List ℕ → ℕ → ℕ → Fraction
 unitsAt product c i = unitsOf (ofBits binary32 (wordAt product c i))
 
 -- ---- what is claimed of a scene of the moment's product
-pub record SceneClaim (s : Settings) (m : Moment) (product : List ℕ) (c i : ℕ) : Type 0 where
+pub record SceneClaim (s : Settings) (bias : List ℕ) (m : Moment) (product : List ℕ) (c i : ℕ) : Type 0 where
   -- it is delivered exactly when the rules say
   pub rules : isDelivered (wordAt product c i) ≡ true → ByTheRules s m c i
   pub delivers : ByTheRules s m c i → isDelivered (wordAt product c i) ≡ true
-  -- it is then exactly T / 4096
-  pub exact : isDelivered (wordAt product c i) ≡ true → Equal (unitsAt product c i) (whole (tAt s m c i))
-  -- and at most 2 units from E
-  pub distance : isDelivered (wordAt product c i) ≡ true → Near (pos 2 /ᶠ pos 1) (unitsAt product c i) (eAt s m c i)
-  -- which is what equations 25 to 29 give
+  -- it is then exactly the delivered temperature / 4096
+  pub exact : isDelivered (wordAt product c i) ≡ true → Equal (unitsAt product c i) (whole (deliveredAt s m c i bias))
+  -- and at most 7/2 units from c0 + (1 + e / 65,536) E
+  pub distance : isDelivered (wordAt product c i) ≡ true → Near (pos 7 /ᶠ pos 2) (unitsAt product c i) (biasedEAt s m c i bias)
+  -- where E is what equations 25 to 29 give
   pub equations : isDelivered (wordAt product c i) ≡ true → Equal (equationsAt s m c i) (eAt s m c i)

@@ -1,5 +1,5 @@
--- Which scene a count has: one law for each outcome of the four tests. A temperature is delivered exactly when all four pass, and it is T
--- itself in units.
+-- Which scene a count has, whatever is delivered for T: one law for each outcome of the four tests. A temperature is delivered exactly when
+-- all four pass.
 use mathlib.Core.Path.{_≡_, refl, sym, _∙_, ap₂}
 use mathlib.Core.Bool.{true, false}
 use mathlib.Core.List.{[], _∷_}
@@ -27,31 +27,31 @@ abbrev pub temperatureOf : Constants → ℕ → ℤ
 temperatureOf k count = temperature (k .tc) (k .rise) (k .tnl) (k .d) (numerator k count)
 
 -- ---- the scene by the outcomes of the tests, in the order of the code
-module _ (k : Constants) (count : ℕ) where
-  pub scene-negative : ltZ (numerator k count) (pos 0) ≡ true → Outside ≡ sceneOf k count
+module _ (deliver : ℤ → ℤ) (k : Constants) (count : ℕ) where
+  pub scene-negative : ltZ (numerator k count) (pos 0) ≡ true → Outside ≡ sceneOf deliver k count
   unfolding sceneOf
   scene-negative a = rw a
 
   module _ (a : ltZ (numerator k count) (pos 0) ≡ false) where
-    pub scene-above : ltZ (pos 5 *ℤ k .d) (pos 4 *ℤ numerator k count) ≡ true → Outside ≡ sceneOf k count
+    pub scene-above : ltZ (pos 5 *ℤ k .d) (pos 4 *ℤ numerator k count) ≡ true → Outside ≡ sceneOf deliver k count
     unfolding sceneOf
     scene-above b = rw (a, b)
 
     module _ (b : ltZ (pos 5 *ℤ k .d) (pos 4 *ℤ numerator k count) ≡ false) where
-      pub scene-guard-low : ltZ (temperatureOf k count) (pos 1) ≡ true → Guard ≡ sceneOf k count
+      pub scene-guard-low : ltZ (temperatureOf k count) (pos 1) ≡ true → Guard ≡ sceneOf deliver k count
       unfolding sceneOf
       scene-guard-low c = rw (a, b, c)
 
       module _ (c : ltZ (temperatureOf k count) (pos 1) ≡ false) where
-        pub scene-guard-high : ltZ (pos 16777215) (temperatureOf k count) ≡ true → Guard ≡ sceneOf k count
+        pub scene-guard-high : ltZ (pos 16777215) (temperatureOf k count) ≡ true → Guard ≡ sceneOf deliver k count
         unfolding sceneOf
         scene-guard-high d = rw (a, b, c, d)
 
-        pub scene-kelvin : ltZ (pos 16777215) (temperatureOf k count) ≡ false → Kelvin (kelvin (natAbs (temperatureOf k count))) ≡ sceneOf k count
+        pub scene-kelvin : ltZ (pos 16777215) (temperatureOf k count) ≡ false → Kelvin (kelvin (natAbs (deliver (temperatureOf k count)))) ≡ sceneOf deliver k count
         unfolding sceneOf
         scene-kelvin d = rw (a, b, c, d)
 
--- ---- T within the guard is a natural number of units
+-- ---- a temperature whose f32 is exact is a natural number of units
 pub record WithinGuard (t : ℤ) : Type 0 where
   pub low : 1 ≤ natAbs t
   pub high : natAbs t ≤ 16777215
@@ -68,40 +68,41 @@ pub record Passes (k : Constants) (count : ℕ) : Type 0 where
   pub guard-low : pos 1 ≤ℤ temperatureOf k count
   pub guard-high : temperatureOf k count ≤ℤ pos 16777215
 
-delivers : (k : Constants) (count : ℕ) → Passes k count → sceneOf k count ≡ Kelvin (kelvin (natAbs (temperatureOf k count)))
-delivers k count p =
-    sym (scene-kelvin k count (at-most-fails (p .not-negative)) (at-most-fails (p .not-above)) (at-most-fails (p .guard-low)) (at-most-fails (p .guard-high)))
+module _ (deliver : ℤ → ℤ) where
+  delivers : (k : Constants) (count : ℕ) → Passes k count → sceneOf deliver k count ≡ Kelvin (kelvin (natAbs (deliver (temperatureOf k count))))
+  delivers k count p =
+      sym (scene-kelvin deliver k count (at-most-fails (p .not-negative)) (at-most-fails (p .not-above)) (at-most-fails (p .guard-low)) (at-most-fails (p .guard-high)))
 
-module _ (k : Constants) (count : ℕ) (x : Float) (e : sceneOf k count ≡ Kelvin x) where
-  not-outside : Outside ≡ sceneOf k count → ⊥
-  not-outside q = let z : _≡_ {A = ℕ} 0 1 = cc in omega arith
+  module _ (k : Constants) (count : ℕ) (x : Float) (e : sceneOf deliver k count ≡ Kelvin x) where
+    not-outside : Outside ≡ sceneOf deliver k count → ⊥
+    not-outside q = let z : _≡_ {A = ℕ} 0 1 = cc in omega arith
 
-  not-guard : Guard ≡ sceneOf k count → ⊥
-  not-guard q = let z : _≡_ {A = ℕ} 0 1 = cc in omega arith
+    not-guard : Guard ≡ sceneOf deliver k count → ⊥
+    not-guard q = let z : _≡_ {A = ℕ} 0 1 = cc in omega arith
 
-  negative-fails : ltZ (numerator k count) (pos 0) ≡ false
-  negative-fails = test-fails (ltZ (numerator k count) (pos 0)) (λ t. not-outside (scene-negative k count t))
+    negative-fails : ltZ (numerator k count) (pos 0) ≡ false
+    negative-fails = test-fails (ltZ (numerator k count) (pos 0)) (λ t. not-outside (scene-negative deliver k count t))
 
-  above-fails : ltZ (pos 5 *ℤ k .d) (pos 4 *ℤ numerator k count) ≡ false
-  above-fails = test-fails (ltZ (pos 5 *ℤ k .d) (pos 4 *ℤ numerator k count)) (λ t. not-outside (scene-above k count negative-fails t))
+    above-fails : ltZ (pos 5 *ℤ k .d) (pos 4 *ℤ numerator k count) ≡ false
+    above-fails = test-fails (ltZ (pos 5 *ℤ k .d) (pos 4 *ℤ numerator k count)) (λ t. not-outside (scene-above deliver k count negative-fails t))
 
-  below-one-fails : ltZ (temperatureOf k count) (pos 1) ≡ false
-  below-one-fails = test-fails (ltZ (temperatureOf k count) (pos 1)) (λ t. not-guard (scene-guard-low k count negative-fails above-fails t))
+    below-one-fails : ltZ (temperatureOf k count) (pos 1) ≡ false
+    below-one-fails = test-fails (ltZ (temperatureOf k count) (pos 1)) (λ t. not-guard (scene-guard-low deliver k count negative-fails above-fails t))
 
-  above-greatest-fails : ltZ (pos 16777215) (temperatureOf k count) ≡ false
-  above-greatest-fails =
-      test-fails (ltZ (pos 16777215) (temperatureOf k count)) (λ t. not-guard (scene-guard-high k count negative-fails above-fails below-one-fails t))
+    above-greatest-fails : ltZ (pos 16777215) (temperatureOf k count) ≡ false
+    above-greatest-fails =
+        test-fails (ltZ (pos 16777215) (temperatureOf k count)) (λ t. not-guard (scene-guard-high deliver k count negative-fails above-fails below-one-fails t))
 
-  delivered-passes : Passes k count
-  delivered-passes = record {
-    not-negative = ltZ-false negative-fails;
-    not-above = ltZ-false above-fails;
-    guard-low = ltZ-false below-one-fails;
-    guard-high = ltZ-false above-greatest-fails;
-  }
+    delivered-passes : Passes k count
+    delivered-passes = record {
+      not-negative = ltZ-false negative-fails;
+      not-above = ltZ-false above-fails;
+      guard-low = ltZ-false below-one-fails;
+      guard-high = ltZ-false above-greatest-fails;
+    }
 
--- both directions; the temperature is T units, with T from 1 to 16,777,215
-pub delivered-exactly-when : (k : Constants) (count : ℕ)
-    → ((x : Float) → sceneOf k count ≡ Kelvin x → Passes k count)
-    × (Passes k count → (sceneOf k count ≡ Kelvin (kelvin (natAbs (temperatureOf k count)))) × WithinGuard (temperatureOf k count))
-delivered-exactly-when k count = (delivered-passes k count, λ p. (delivers k count p, within-guard (p .guard-low) (p .guard-high)))
+  -- both directions
+  pub delivered-exactly-when : (k : Constants) (count : ℕ)
+      → ((x : Float) → sceneOf deliver k count ≡ Kelvin x → Passes k count)
+      × (Passes k count → sceneOf deliver k count ≡ Kelvin (kelvin (natAbs (deliver (temperatureOf k count)))))
+  delivered-exactly-when k count = (delivered-passes k count, delivers k count)

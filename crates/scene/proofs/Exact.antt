@@ -148,9 +148,9 @@ unfolding kelvin
 kelvin-not-nan t = round-not-nan binary32 false t 4096
 
 -- what holds of both marks and of every temperature holds of each scene in a channel with flag 0
-pub scene-cases : (P : Scene → Type 0) → P Outside → P Guard → ((t : ℕ) → P (Kelvin (kelvin t))) → (k : Constants) (count : ℕ) → P (sceneOf k count)
+pub scene-cases : (P : Scene → Type 0) → P Outside → P Guard → ((t : ℕ) → P (Kelvin (kelvin t))) → (deliver : ℤ → ℤ) (k : Constants) (count : ℕ) → P (sceneOf deliver k count)
 unfolding sceneOf
-scene-cases P a b f k count = by-tests (outside n (k .d)) (guardFails t) (natAbs t)
+scene-cases P a b f deliver k count = by-tests (outside n (k .d)) (guardFails t) (natAbs (deliver t))
   where
     n : ℤ
     n = numerator k count
@@ -163,7 +163,7 @@ scene-cases P a b f k count = by-tests (outside n (k .d)) (guardFails t) (natAbs
     by-tests false true t = b
     by-tests false false t = f t
 
-pub scene-not-nan : (k : Constants) (count : ℕ) → T (not (isNan (value (sceneOf k count))))
+pub scene-not-nan : (deliver : ℤ → ℤ) (k : Constants) (count : ℕ) → T (not (isNan (value (sceneOf deliver k count))))
 unfolding isNan
 scene-not-nan = scene-cases (λ s. T (not (isNan (value s)))) tt tt kelvin-not-nan
 

@@ -2,5 +2,7 @@ pub mod Ranges
 pub mod Exact
 pub mod Delivered
 pub mod Distance
+pub mod BiasRange
+pub mod BiasDistance
 pub mod Equations
 mod Bracket

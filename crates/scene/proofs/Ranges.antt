@@ -5,7 +5,7 @@ use mathlib.Core.List.{[], _∷_}
 use Prim.Native.Nat.{ℕ, _≤_}
 use lib.Dec.{lit<}
 use lib.IntN.{ℤ, pos, _+ℤ_, _-ℤ_, _*ℤ_}
-use lib.Signed.{_≤ℤ_, ltZ-yes}
+use lib.Signed.{_≤ℤ_, _<ℤ_, ltZ-yes}
 use mir.Syntax.{w64}
 use mir.Val.{SFits}
 use Rattle.integers.specs.Rounding.{r}
@@ -46,6 +46,27 @@ module _ {x tnl : ℤ} (h : Bounded x (pos 81920)) (k : Bounded tnl (pos 8192)) 
 
   pub bend-bounded : Bounded (bendOf x tnl) (pos 92160)
   bend-bounded = r-bounded (pos 4 *ℤ x *ℤ (pos 65536 -ℤ x) *ℤ tnl) (ltZ-yes tt) x-tnl-bounded
+
+-- ---- X and the linear part of a scene that is not outside
+pub record SceneRange (tc rise tnl d n : ℤ) : Type 0 where
+  pub tc-low : pos 11166 ≤ℤ tc
+  pub tc-high : tc ≤ℤ pos 43934
+  pub rise-low : pos 825032 ≤ℤ rise
+  pub rise-high : rise ≤ℤ pos 1357512
+  pub tnl-bounded : Bounded tnl (pos 8192)
+  pub d-above : pos 0 <ℤ d
+  pub n-low : pos 0 ≤ℤ n
+  pub n-high : (pos 4 *ℤ n) ≤ℤ (pos 5 *ℤ d)
+
+module _ {tc rise tnl d n : ℤ} (s : SceneRange tc rise tnl d n) where
+  pub scene-rise-not-negative : pos 0 ≤ℤ rise
+  scene-rise-not-negative = (le-by (rise ∷ []) ((# 825032 :≤ v0) ∷ []) (# 0) v0 (hyp 0 ⊕ hyp 1) tt (s .rise-low))
+
+  pub scene-x-bounded : Bounded (X n d) (pos 81920)
+  scene-x-bounded = r-bounded (pos 65536 *ℤ n) (s .d-above) (bounded-not-negative (le-by (n ∷ []) ((# 0 :≤ v0) ∷ []) (# 0) (# 65536 :* v0) (hyp 0 ⊕ nat 65536 ⊗ hyp 1) tt (s .n-low)) (le-by (n ∷ d ∷ []) ((# 4 :* v0 :≤ # 5 :* v1) ∷ []) (# 65536 :* v0) (# 81920 :* v1) (hyp 0 ⊕ nat 16384 ⊗ hyp 1) tt (s .n-high)))
+
+  pub scene-linear-bounded : Bounded (r (n *ℤ rise) d) (pos 1696890)
+  scene-linear-bounded = r-bounded (n *ℤ rise) (s .d-above) (bounded-not-negative (product-not-negative (s .n-low) scene-rise-not-negative) (le-by (n ∷ d ∷ rise ∷ []) ((# 0 :< v1) ∷ (# 0 :≤ v2) ∷ (v2 :≤ # 1357512) ∷ (# 4 :* v0 :≤ # 5 :* v1) ∷ []) (v0 :* v2) (# 1696890 :* v1) (nat 4 ⊗ hyp 0 ⊕ nat 5 ⊗ hyp 3 ⊕ nat 5 ⊗ hyp 1 ⊗ hyp 3 ⊕ hyp 2 ⊗ hyp 4) tt (s .d-above) scene-rise-not-negative (s .rise-high) (s .n-high)))
 
 -- ---- the constants
 module _ {k : Constants} (h : ConstantsRange k) where
@@ -107,14 +128,26 @@ module _ {k : Constants} (h : ConstantsRange k) where
     pub n-fits : SFits w64 n
     n-fits = bounded-fits n-bounded (lit< tt)
 
+    pub scene-range : SceneRange (k .tc) (k .rise) (k .tnl) (k .d) n
+    scene-range = record {
+      tc-low = h .tc-low;
+      tc-high = h .tc-high;
+      rise-low = h .rise-low;
+      rise-high = h .rise-high;
+      tnl-bounded = h .tnl;
+      d-above = h .d-low;
+      n-low = low;
+      n-high = high;
+    }
+
     pub x-bounded : Bounded (X n (k .d)) (pos 81920)
-    x-bounded = r-bounded (pos 65536 *ℤ n) (h .d-low) (bounded-not-negative (le-by (n ∷ []) ((# 0 :≤ v0) ∷ []) (# 0) (# 65536 :* v0) (hyp 0 ⊕ nat 65536 ⊗ hyp 1) tt low) (le-by (n ∷ (k .d) ∷ []) ((# 4 :* v0 :≤ # 5 :* v1) ∷ []) (# 65536 :* v0) (# 81920 :* v1) (hyp 0 ⊕ nat 16384 ⊗ hyp 1) tt high))
+    x-bounded = scene-x-bounded scene-range
 
     pub n-rise-bounded : Bounded (n *ℤ k .rise) (pos 86773796902845000)
     n-rise-bounded = bounded-product n-bounded rise-bounded
 
     pub linear-bounded : Bounded (r (n *ℤ k .rise) (k .d)) (pos 1696890)
-    linear-bounded = r-bounded (n *ℤ k .rise) (h .d-low) (bounded-not-negative (product-not-negative low rise-not-negative) (le-by (n ∷ (k .d) ∷ (k .rise) ∷ []) ((# 0 :< v1) ∷ (# 0 :≤ v2) ∷ (v2 :≤ # 1357512) ∷ (# 4 :* v0 :≤ # 5 :* v1) ∷ []) (v0 :* v2) (# 1696890 :* v1) (nat 4 ⊗ hyp 0 ⊕ nat 5 ⊗ hyp 3 ⊕ nat 5 ⊗ hyp 1 ⊗ hyp 3 ⊕ hyp 2 ⊗ hyp 4) tt (h .d-low) rise-not-negative (h .rise-high) high))
+    linear-bounded = scene-linear-bounded scene-range
 
   -- ---- T of X and the linear part
   module _ {x linear : ℤ} (of-x : Bounded x (pos 81920)) (of-linear : Bounded linear (pos 1696890)) where

@@ -32,16 +32,21 @@ unitsOf nan = pos 0 /ᶠ pos 0
 unitsOf (inf negative) = pos 0 /ᶠ pos 0
 unitsOf (fin negative m e) = cond negative (negℤ (pos (m * up e * 4096))) (pos (m * up e * 4096)) /ᶠ pos (down e)
 
--- ---- the scene of a count in a channel with flag 0. Of its channel a scene needs Tc, rise = Tw - Tc, TNL, D, slope = 12 × Wc × Ww
--- and base = Ac × Ww alone: N = slope × C - base
+-- ---- the scene of a count in a channel with flag 0. Before scan bias a scene needs of its channel Tc, rise = Tw - Tc, TNL, D,
+-- slope = 12 × Wc × Ww and base = Ac × Ww alone: N = slope × C - base
 abbrev pub numerator : Constants → ℕ → ℤ
 numerator k count = k .slope *ℤ pos count -ℤ k .base
 
-unfoldable pub sceneOf : Constants → ℕ → Scene
+-- guard and marks look at T. `deliver` says which temperature, in units, is delivered for T: T itself without scan bias, `biased` with it
+unfoldable pub sceneOf : (deliver : ℤ → ℤ) → Constants → ℕ → Scene
 unfolding kelvin temperature
-sceneOf k count =
+sceneOf deliver k count =
     let n = numerator k count in let t = temperature (k .tc) (k .rise) (k .tnl) (k .d) n in
-    cond (outside n (k .d)) Outside (cond (guardFails t) Guard (Kelvin (kelvin (natAbs t))))
+    cond (outside n (k .d)) Outside (cond (guardFails t) Guard (Kelvin (kelvin (natAbs (deliver t)))))
+
+-- without scan bias
+abbrev pub unbiased : ℤ → ℤ
+unbiased t = t
 
 -- a flagged channel has no constants; nothing reads these
 abbrev pub noConstants : Constants

@@ -4,7 +4,9 @@ use mathlib.Core.Bool.{Bool, _||_}
 use lib.Dec.{ltb}
 use lib.IntN.{ℤ, pos, natAbs, _+ℤ_, _-ℤ_, _*ℤ_}
 use lib.Signed.{_≤ℤ_}
+use mathlib.Core.Path.{_≡_}
 use Rattle.integers.specs.Rounding.{floor, r}
+use Rattle.integers.specs.Bounds.{Bounded}
 use Rattle.scene.specs.declared.Constants.{Constants}
 use Rattle.scene.specs.declared.Scale.{Scale}
 
@@ -20,6 +22,19 @@ pub record Bracket (n d : ℤ) (w : ℕ) : Type 0 where
 -- a rest of 2^16 that 33 more would fill, or one of 2^32 beyond the edge
 abbrev pub unsureOf : (x linear edge : ℕ) → Bool
 unsureOf x linear edge = ltb 65501 (x % 65536) || ltb edge (linear % 4294967296)
+
+-- ---- the scan bias of a position as two numbers: the factor 65,536 + e and the offset 65,536 (c0 + 32,768) + 32,768, in which the half of
+-- the rounding is
+abbrev pub eOf : ℕ → ℤ
+eOf factor = pos factor -ℤ pos 65536
+
+abbrev pub c0Of : ℕ → ℤ
+c0Of offset = pos (offset / 65536) -ℤ pos 32768
+
+pub record BiasNumbers (factor offset : ℕ) : Type 0 where
+  pub e : Bounded (eOf factor) (pos 32768)
+  pub c0 : Bounded (c0Of offset) (pos 4096)
+  pub half : offset % 65536 ≡ 32768
 
 -- r(4X(65,536 - X) × TNL, 2^32)
 abbrev pub bendOf : (X tnl : ℤ) → ℤ

@@ -24,3 +24,7 @@ temperature tc rise tnl d n =
 -- the guard fails where T is below 1 or above 16,777,215
 abbrev pub guardFails : ℤ → Bool
 guardFails t = ltZ t (pos 1) || ltZ (pos 16777215) t
+
+-- Request W1, scan bias (equation 30): the delivered temperature is c0 + r((65,536 + e) × T, 65,536)
+unfoldable pub biased : (c0 e T : ℤ) → ℤ
+biased c0 e t = c0 +ℤ r ((pos 65536 +ℤ e) *ℤ t) (pos 65536)

@@ -10,6 +10,10 @@ unroundedTw weighted weights b = weighted /ᶠ weights +ᶠ whole b
 abbrev pub E : (x tw tc tnl : Fraction) → Fraction
 E x tw tc tnl = tc +ᶠ x *ᶠ (tw -ᶠ tc) +ᶠ whole (pos 4) *ᶠ x *ᶠ (whole (pos 1) -ᶠ x) *ᶠ tnl
 
+-- Request W1: equation 30 over E, c0 + (1 + e / 65,536) E
+abbrev pub biasedE : (c0 e : ℤ) → Fraction → Fraction
+biasedE c0 e unrounded = whole c0 +ᶠ (whole (pos 1) +ᶠ e /ᶠ pos 65536) *ᶠ unrounded
+
 -- ---- equations 25 to 29 one by one; cw and cc are the mean warm and cold counts, c is the scene's count
 abbrev pub gain : (cw cc tw tc : Fraction) → Fraction
 gain cw cc tw tc = (cw -ᶠ cc) ÷ᶠ (tw -ᶠ tc)

@@ -1,16 +1,15 @@
 // Document 01, "Scenes": one scene.
 ghost use mathlib.Core.Path.{_≡_};
 ghost use mathlib.Core.Bool.{not};
-ghost use Prim.Native.Nat.{_≤_};
 ghost use lib.Dec.{T};
-ghost use lib.IntN.{pos, _+ℤ_, _*ℤ_};
+ghost use lib.IntN.{pos, natAbs, _+ℤ_, _*ℤ_};
 ghost use lib.Signed.{_≤ℤ_};
 ghost use lib.Ieee.{isNan};
 ghost use Rattle.integers.specs.Bounds.{Bounded};
-ghost use Rattle.scene.specs.Temperature.{temperature};
+ghost use Rattle.scene.specs.Temperature.{temperature, biased};
 ghost use Rattle.scene.specs.Scene.{kelvin, value, bits, sceneOf};
 ghost use Rattle.scene.specs.Ranges.{ConstantsRange};
-ghost use Rattle.scene.specs.Steps.{scaleOf, Bracket, unsureOf, bendOf};
+ghost use Rattle.scene.specs.Steps.{scaleOf, Bracket, unsureOf, c0Of, eOf, BiasNumbers, bendOf};
 use integers::floor_div;
 use integers::round_natural;
 use integers::round_small;
@@ -85,16 +84,16 @@ fn bend(x: i64, tnl: i64) -> i64
     round_natural(raised as u64, 2_147_483_648) as i64 - 1_048_576
 }
 
-// T, in units, of X and the linear part. An i32 becomes an f32 by one instruction.
-fn units_of(k: Constants, x: i64, linear: i64) -> i32
+// T, in units, of X and the linear part.
+fn units_of(k: Constants, x: i64, linear: i64) -> i64
     requires { ⌜ ConstantsRange k × Bounded x (pos 81920) × Bounded linear (pos 1696890) ⌝ }
     ensures { λ t. ⌜ t ≡ k .tc +ℤ linear +ℤ bendOf x (k .tnl) ⌝ }
 {
-    (k.tc + linear + bend(x, k.tnl)) as i32
+    k.tc + linear + bend(x, k.tnl)
 }
 
 // T by the divisions as they are written.
-fn divided_units(k: Constants, n: i64) -> i32
+fn divided_units(k: Constants, n: i64) -> i64
     requires { ⌜ ConstantsRange k × (pos 0 ≤ℤ n) × ((pos 4 *ℤ n) ≤ℤ (pos 5 *ℤ k .d)) ⌝ }
     ensures { λ t. ⌜ t ≡ temperature (k .tc) (k .rise) (k .tnl) (k .d) n ⌝ }
 {
@@ -104,7 +103,7 @@ fn divided_units(k: Constants, n: i64) -> i32
 }
 
 // T by a product in place of each division, where no half lies in the bracket.
-fn units(k: Constants, scale: Scale, n: i64) -> i32
+fn units(k: Constants, scale: Scale, n: i64) -> i64
     requires { ⌜ ConstantsRange k × (scale ≡ scaleOf k) × (pos 0 ≤ℤ n) × ((pos 4 *ℤ n) ≤ℤ (pos 5 *ℤ k .d)) ⌝ }
     ensures { λ t. ⌜ t ≡ temperature (k .tc) (k .rise) (k .tnl) (k .d) n ⌝ }
 {
@@ -117,18 +116,28 @@ fn units(k: Constants, scale: Scale, n: i64) -> i32
     units_of(k, (x / 65_536) as i64, (linear / 4_294_967_296) as i64)
 }
 
-// t / 4096: a whole number below 2^24 is cast without loss, and the product with a power of two is exact.
-fn kelvin_of(t: u32) -> f32
-    requires { ⌜ (1 ≤ t) × (t ≤ 16777215) ⌝ }
-    ensures { λ x. ⌜ x ≡ kelvin t ⌝ }
+// What is delivered for T: c0 + r((65,536 + e) × T, 65,536). The factor is 65,536 + e, and the offset has c0 and the half of the rounding.
+fn biased_units(t: i64, factor: u32, offset: u32) -> i32
+    requires { ⌜ (pos 11166 ≤ℤ t) × (t ≤ℤ pos 1832984) × BiasNumbers factor offset ⌝ }
+    ensures { λ b. ⌜ b ≡ biased (c0Of offset) (eOf factor) t ⌝ }
+{
+    ((factor as u64 * t as u64 + offset as u64) / 65_536) as i32 - 32_768
+}
+
+// t / 4096: a whole number below 2^24 is cast without loss, and the product with a power of two is exact. An i32 becomes an f32 by one
+// instruction.
+fn kelvin_of(t: i32) -> f32
+    requires { ⌜ (pos 1 ≤ℤ t) × (t ≤ℤ pos 16777215) ⌝ }
+    ensures { λ x. ⌜ x ≡ kelvin (natAbs t) ⌝ }
 {
     (t as f32) * (1.0 / 4096.0)
 }
 
-// The scene of a count in a channel with flag 0.
-pub fn scene_of(k: Constants, scale: Scale, count: u16) -> Scene
-    requires { ⌜ ConstantsRange k × (scale ≡ scaleOf k) ⌝ }
-    ensures { λ s. ⌜ s ≡ sceneOf k count ⌝ }
+// The scene of a count in a channel with flag 0, after scan bias. The guard is not tested: T of constants in their ranges is from 11,166 to
+// 1,832,984.
+pub fn scene_of(k: Constants, scale: Scale, factor: u32, offset: u32, count: u16) -> Scene
+    requires { ⌜ ConstantsRange k × (scale ≡ scaleOf k) × BiasNumbers factor offset ⌝ }
+    ensures { λ s. ⌜ s ≡ sceneOf (biased (c0Of offset) (eOf factor)) k count ⌝ }
 {
     let n = k.slope * count as i64 - k.base;
     if n < 0 {
@@ -138,13 +147,7 @@ pub fn scene_of(k: Constants, scale: Scale, count: u16) -> Scene
         return Scene::Outside;
     }
     let t = units(k, scale, n);
-    if t < 1 {
-        return Scene::Guard;
-    }
-    if 16_777_215 < t {
-        return Scene::Guard;
-    }
-    Scene::Kelvin(kelvin_of(t as u32))
+    Scene::Kelvin(kelvin_of(biased_units(t, factor, offset)))
 }
 
 fn value_of(s: Scene) -> f32

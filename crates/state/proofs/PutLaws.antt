@@ -2,7 +2,7 @@
 use Prim.Native.Nat.{ℕ, _+_, _*_, _-_, _≤_}
 use native.Mathlib.Omega.{arith}
 use mathlib.Core.Path.{_≡_, refl, sym, ap, _∙_}
-use mathlib.Core.List.{List, _++_, append-assoc, append-nil}
+use mathlib.Core.List.{List, [], _++_, append-assoc, append-nil}
 use lib.ListN.{length, take, drop, length-append}
 use Rattle.lists.specs.Build.{put}
 use Rattle.lists.proofs.Put.{length-put, put-after-put, part-is-take, length-part, lent-part-is-put, copied-whole}
@@ -10,6 +10,7 @@ use Rattle.fields.specs.Fields.{Field, headSize, field, fieldBytes, fieldAt}
 use Rattle.fields.proofs.LayoutLaws.{fieldStart}
 use Rattle.fields.proofs.FieldBytes.{headBytes}
 use Rattle.table.specs.Opening.{tableSize}
+use Rattle.bias.specs.Bias.{biasSize}
 use Rattle.window.specs.declared.Window.{Window}
 use Rattle.calibrator.specs.declared.Calibrator.{Calibrator}
 use Rattle.state.specs.State.{saved, countsKept, kelvinsKept, stateLayout, stateSize, frontBytes, lastBytes, numberBytes, stateOf}
@@ -39,13 +40,27 @@ module _ (out whole value : List ℕ) (at : ℕ) (f : Field) (fits : at + headSi
       let same = ap length (part-is-take whole start (length value)) ∙ length-part whole start (length value) (omega arith) in
       value-lent part (copied-whole value _ part (sym same) copied)
 
--- ---- the window's fields, one after the other
+-- ---- one after the other
+
+-- a part put right behind one that was put
+put-behind-put : (out first second : List ℕ) (start at : ℕ) {a b : List ℕ} → start + length first ≡ at → at ≤ length out
+    → a ≡ put out start first → b ≡ put a at second → b ≡ put out start (first ++ second)
+put-behind-put out first second start at next fits before is =
+    is
+    ∙ ap (λ (l : List ℕ). put l at second) before
+    ∙ put-after-put out first second start at next fits
+
+-- a field whose length is the layout's
+field-sized : (tag : ℕ) (value : List ℕ) {size n : ℕ} → size ≡ n → fieldBytes (field tag size) value ≡ fieldBytes (field tag n) value
+field-sized tag value long = ap (λ (k : ℕ). fieldBytes (field tag k) value) long
+
+-- ---- the window's fields
 
 -- the field of numbers that are n
 number-field : (tag n : ℕ) (numbers : List ℕ) → length numbers ≡ n → fieldBytes (field tag (4 * length numbers)) (numberBytes numbers) ≡ fieldBytes (field tag (4 * n)) (numberBytes numbers)
-number-field tag n numbers long = ap (λ (k : ℕ). fieldBytes (field tag (4 * k)) (numberBytes numbers)) long
+number-field tag n numbers long = field-sized tag (numberBytes numbers) (ap (λ (k : ℕ). 4 * k) long)
 
-module _ (out : List ℕ) (w : Window) (room : stateSize ≤ length out) (shaped : Shaped w) where
+module _ (w : Window) (shaped : Shaped w) where
   abbrev lastField : List ℕ
   lastField = fieldBytes (fieldAt stateLayout 2) (lastBytes (w .any) (w .last))
 
@@ -64,50 +79,64 @@ module _ (out : List ℕ) (w : Window) (room : stateSize ≤ length out) (shaped
   cold-ends : windowStart + length (lastField ++ warmField ++ coldField) ≡ fieldStart stateLayout 5
   cold-ends = omega (arith, length-append (lastField ++ warmField) coldField, warm-ends, length-number-bytes (w .cold), shaped .cold)
 
-  pub window-put : {a b c d : List ℕ} → a ≡ put out windowStart lastField
+  window-ends : windowStart + length (windowBytes w) ≡ fieldStart stateLayout 6
+  unfolding windowBytes
+  window-ends = omega (arith, length-append (lastField ++ warmField ++ coldField) kelvinField, cold-ends, length-number-bytes (w .kelvin), shaped .kelvin)
+
+  pub window-put : (out : List ℕ) → stateSize ≤ length out → {a b c d : List ℕ} → a ≡ put out windowStart lastField
       → b ≡ put a (fieldStart stateLayout 3) (fieldBytes (field 0x33 (4 * length (w .warm))) (numberBytes (w .warm)))
       → c ≡ put b (fieldStart stateLayout 4) (fieldBytes (field 0x34 (4 * length (w .cold))) (numberBytes (w .cold)))
       → d ≡ put c (fieldStart stateLayout 5) (fieldBytes (field 0x35 (4 * length (w .kelvin))) (numberBytes (w .kelvin)))
       → d ≡ put out windowStart (windowBytes w)
   unfolding windowBytes
-  window-put {a} {b} {c} last warm cold kelvin =
+  window-put out room {a} {b} {c} last warm cold kelvin =
       let second : b ≡ put out windowStart (lastField ++ warmField) =
-      warm
-      ∙ ap (put a (fieldStart stateLayout 3)) (number-field 0x33 countsKept (w .warm) (shaped .warm))
-      ∙ ap (λ (l : List ℕ). put l (fieldStart stateLayout 3) warmField) last
-      ∙ put-after-put out lastField warmField windowStart (fieldStart stateLayout 3) refl (omega arith) in
+      put-behind-put out lastField warmField windowStart (fieldStart stateLayout 3) refl (omega arith) last
+      (warm ∙ ap (put a (fieldStart stateLayout 3)) (number-field 0x33 countsKept (w .warm) (shaped .warm))) in
       let third : c ≡ put out windowStart (lastField ++ warmField ++ coldField) =
-      cold
-      ∙ ap (put b (fieldStart stateLayout 4)) (number-field 0x34 countsKept (w .cold) (shaped .cold))
-      ∙ ap (λ (l : List ℕ). put l (fieldStart stateLayout 4) coldField) second
-      ∙ put-after-put out (lastField ++ warmField) coldField windowStart _ warm-ends (omega arith) in
-      kelvin
-      ∙ ap (put c (fieldStart stateLayout 5)) (number-field 0x35 kelvinsKept (w .kelvin) (shaped .kelvin))
-      ∙ ap (λ (l : List ℕ). put l (fieldStart stateLayout 5) kelvinField) third
-      ∙ put-after-put out (lastField ++ warmField ++ coldField) kelvinField windowStart _ cold-ends (omega arith)
+      put-behind-put out (lastField ++ warmField) coldField windowStart _ warm-ends (omega arith) second
+      (cold ∙ ap (put b (fieldStart stateLayout 4)) (number-field 0x34 countsKept (w .cold) (shaped .cold))) in
+      put-behind-put out (lastField ++ warmField ++ coldField) kelvinField windowStart _ cold-ends (omega arith) third
+      (kelvin ∙ ap (put c (fieldStart stateLayout 5)) (number-field 0x35 kelvinsKept (w .kelvin) (shaped .kelvin)))
 
 -- ---- a whole state
 
-module _ (out : List ℕ) (c : Calibrator) (room : stateSize ≤ length out) (long : length (c .table .bytes) ≡ tableSize) where
+in-a-row : (f t l w c k b : List ℕ) → f ++ t ++ (l ++ w ++ c ++ k) ++ b ≡ f ++ (t ++ (l ++ (w ++ (c ++ (k ++ (b ++ []))))))
+in-a-row f t l w c k b = simp (append-assoc, append-nil)
+
+module _ (c : Calibrator) (shaped : Shaped (c .window)) (table-long : length (c .table .bytes) ≡ tableSize) (bias-long : length (c .bias .bytes) ≡ biasSize) where
   abbrev frontField : List ℕ
   frontField = fieldBytes (fieldAt stateLayout 0) frontBytes
 
   abbrev tableField : List ℕ
   tableField = fieldBytes (fieldAt stateLayout 1) (c .table .bytes)
 
-  fields-are-state : frontField ++ tableField ++ windowBytes (c .window) ≡ stateOf c
-  unfolding windowBytes stateOf
-  fields-are-state = simp (append-assoc, append-nil)
+  abbrev biasField : List ℕ
+  biasField = fieldBytes (fieldAt stateLayout 6) (c .bias .bytes)
 
-  pub state-put : {a b d : List ℕ} → a ≡ put out 0 frontField → b ≡ put a (fieldStart stateLayout 1) (fieldBytes (field 0x31 (length (c .table .bytes))) (c .table .bytes)) → d ≡ put b windowStart (windowBytes (c .window))
-      → d ≡ saved out c
-  state-put {a} {b} front table window =
+  fields-are-state : frontField ++ tableField ++ windowBytes (c .window) ++ biasField ≡ stateOf c
+  unfolding windowBytes stateOf
+  fields-are-state =
+      let w = c .window in
+      in-a-row frontField tableField (lastField w shaped) (warmField w shaped) (coldField w shaped) (kelvinField w shaped) biasField
+
+  table-ends : length (frontField ++ tableField) ≡ windowStart
+  table-ends = omega (arith, table-long)
+
+  pub state-put : (out : List ℕ) → stateSize ≤ length out → {a b d e : List ℕ} → a ≡ put out 0 frontField
+      → b ≡ put a (fieldStart stateLayout 1) (fieldBytes (field 0x31 (length (c .table .bytes))) (c .table .bytes))
+      → d ≡ put b windowStart (windowBytes (c .window))
+      → e ≡ put d (fieldStart stateLayout 6) (fieldBytes (field 0x36 (length (c .bias .bytes))) (c .bias .bytes))
+      → e ≡ saved out c
+  state-put out room {a} {b} {d} front table window bias =
       let second : b ≡ put out 0 (frontField ++ tableField) =
-      table
-      ∙ ap (λ (n : ℕ). put a (fieldStart stateLayout 1) (fieldBytes (field 0x31 n) (c .table .bytes))) long
-      ∙ ap (λ (l : List ℕ). put l (fieldStart stateLayout 1) tableField) front
-      ∙ put-after-put out frontField tableField 0 (fieldStart stateLayout 1) refl (omega arith) in
-      window
-      ∙ ap (λ (l : List ℕ). put l windowStart (windowBytes (c .window))) second
-      ∙ put-after-put out (frontField ++ tableField) (windowBytes (c .window)) 0 windowStart (omega (arith, long)) (omega arith)
+      put-behind-put out frontField tableField 0 (fieldStart stateLayout 1) refl (omega arith) front
+      (table ∙ ap (put a (fieldStart stateLayout 1)) (field-sized 0x31 (c .table .bytes) table-long)) in
+      let third : d ≡ put out 0 (frontField ++ tableField ++ windowBytes (c .window)) =
+      put-behind-put out (frontField ++ tableField) (windowBytes (c .window)) 0 windowStart (omega (arith, table-ends)) (omega arith) second window in
+      put-behind-put out (frontField ++ tableField ++ windowBytes (c .window)) biasField 0 (fieldStart stateLayout 6)
+      (omega (arith, length-append (frontField ++ tableField) (windowBytes (c .window)), table-ends, window-ends (c .window) shaped))
+      (omega arith)
+      third
+      (bias ∙ ap (put d (fieldStart stateLayout 6)) (field-sized 0x36 (c .bias .bytes) bias-long))
       ∙ ap (put out 0) fields-are-state

@@ -2,7 +2,7 @@
 use Prim.Native.Nat.{ℕ, _+_, _*_, _<_, _≤_}
 use native.Mathlib.Nat.{add-zero}
 use native.Mathlib.Omega.{arith}
-use mathlib.Core.Path.{_≡_, refl, ap, ap₂, _∙_}
+use mathlib.Core.Path.{_≡_, refl, ap, _∙_}
 use mathlib.Core.List.{List, [], _∷_, _++_}
 use mathlib.Core.Bool.{Bool, true, false, cond}
 use lib.Dec.{eqb, leb, lit<}
@@ -10,14 +10,16 @@ use lib.ListN.{length, getD, length-append}
 use borrow.Author.Tests.{le-leb, eq-eqb}
 use Rattle.lists.proofs.Stands.{StandsAt, part-that-stands, stands-inside, stands-at-front, stands-behind, stands-itself}
 use Rattle.fields.specs.Numbers.{u32Bytes}
-use Rattle.fields.specs.Fields.{layoutIsRight, laidOut}
+use Rattle.fields.specs.Fields.{layoutIsRight, fieldAt, valueIn, laidOut}
+use Rattle.fields.proofs.LayoutLaws.{field-inside}
 use Rattle.fields.proofs.FieldBytes.{u32-that-stands, Sized, laid-out-before, length-laid-out, value-stands, laid-out-is-right}
 use Rattle.table.specs.Opening.{AcceptedTable}
 use Rattle.table.proofs.OpeningLaws.{accepted-length}
-use Rattle.window.specs.declared.Window.{Window}
+use Rattle.bias.specs.Opening.{AcceptedBias}
+use Rattle.bias.proofs.OpeningLaws.{accepted-bias-length}
 use Rattle.window.specs.Ranges.{WindowRange}
 use Rattle.calibrator.specs.declared.Calibrator.{Calibrator}
-use Rattle.state.specs.State.{magic, version, countsKept, kelvinsKept, stateLayout, stateSize, frontBytes, numberBytes, valuesOf, stateOf, at, tableIn, windowIn, calibratorIn, frontIsRight, isState}
+use Rattle.state.specs.State.{magic, version, countsKept, kelvinsKept, stateLayout, stateSize, frontBytes, numberBytes, valuesOf, stateOf, at, tableIn, biasIn, windowIn, calibratorIn, frontIsRight, isState}
 use Rattle.state.proofs.NumberLaws.{length-number-bytes, numbers-read-back}
 use Rattle.state.proofs.InsideLaws.{ReachedOnly, window-is-inside}
 use Rattle.state.proofs.WindowLaws.{Shaped}
@@ -25,6 +27,7 @@ use Rattle.state.proofs.WindowLaws.{Shaped}
 -- what a calibrator keeps to that can be written
 pub record Savable (c : Calibrator) : Type 0 where
   pub table : AcceptedTable (c .table .bytes)
+  pub bias : AcceptedBias (c .bias .bytes)
   pub shaped : Shaped (c .window)
   pub range : WindowRange (c .window)
   pub only : ReachedOnly (c .window)
@@ -34,7 +37,7 @@ bytes-sized numbers long = length-number-bytes numbers ∙ ap (λ (n : ℕ). 4 *
 
 module _ {c : Calibrator} (savable : Savable c) where
   sized : Sized stateLayout (valuesOf c)
-  sized = (refl, (accepted-length (savable .table), (refl, (bytes-sized (c .window .warm) (savable .shaped .warm), (bytes-sized (c .window .cold) (savable .shaped .cold), (bytes-sized (c .window .kelvin) (savable .shaped .kelvin), tt))))))
+  sized = (refl, (accepted-length (savable .table), (refl, (bytes-sized (c .window .warm) (savable .shaped .warm), (bytes-sized (c .window .cold) (savable .shaped .cold), (bytes-sized (c .window .kelvin) (savable .shaped .kelvin), (accepted-bias-length (savable .bias), tt)))))))
 
   pub length-state : length (stateOf c) ≡ stateSize
   unfolding stateOf
@@ -51,11 +54,17 @@ module _ {c : Calibrator} (savable : Savable c) where
     state-reaches : stateSize ≤ length state
     state-reaches = omega (arith, length-append (stateOf c) behind, length-state)
 
-    stands : (k : ℕ) → k < 6 → StandsAt state (at k) (getD (valuesOf c) k [])
+    stands : (k : ℕ) → k < 7 → StandsAt state (at k) (getD (valuesOf c) k [])
     stands k below = rw state-is-laid-out (value-stands stateLayout (valuesOf c) behind sized k below)
 
+    value-read-back : (k : ℕ) → k < 7 → length (getD (valuesOf c) k []) ≡ fieldAt stateLayout k .size → valueIn stateLayout k state ≡ getD (valuesOf c) k []
+    value-read-back k below long = part-that-stands state _ (at k) _ 0 long (omega (arith, state-reaches, field-inside stateLayout k below)) (stands k below)
+
     pub table-read-back : tableIn state ≡ c .table .bytes
-    table-read-back = part-that-stands state (c .table .bytes) (at 1) _ 0 (accepted-length (savable .table)) (omega (arith, state-reaches)) (stands 1 (lit< tt))
+    table-read-back = value-read-back 1 (lit< tt) (accepted-length (savable .table))
+
+    pub bias-read-back : biasIn state ≡ c .bias .bytes
+    bias-read-back = value-read-back 6 (lit< tt) (accepted-bias-length (savable .bias))
 
     last-stands : StandsAt state (at 2 + 1) (u32Bytes (c .window .last))
     last-stands =
@@ -83,7 +92,7 @@ module _ {c : Calibrator} (savable : Savable c) where
         )
 
     pub read-back : calibratorIn state ≡ c
-    read-back = ap₂ (λ (bytes : List ℕ) (window : Window). record { table = record { bytes = bytes }; window = window }) table-read-back window-read-back
+    read-back = rw (table-read-back, bias-read-back, window-read-back)
 
     any-is-bit : (any : Bool) → leb (cond any 1 0) 1 ≡ true
     any-is-bit true = refl
@@ -104,4 +113,4 @@ module _ {c : Calibrator} (savable : Savable c) where
     pub is-state : isState state ≡ true
     unfolding isState
     is-state =
-        rw (le-leb stateSize (length state) state-reaches, front-is-right, table-read-back, savable .table .accepted, window-read-back, window-is-inside (savable .range) (savable .only))
+        rw (le-leb stateSize (length state) state-reaches, front-is-right, table-read-back, savable .table .accepted, bias-read-back, savable .bias .accepted, window-read-back, window-is-inside (savable .range) (savable .only))

@@ -12,7 +12,9 @@ use Rattle.fields.specs.Numbers.{u32At, u32Bytes}
 use Rattle.fields.specs.Fields.{Field, field, layoutSize, layoutIsRight, valueStart, valueIn, laidOut}
 use Rattle.instrument.specs.Instrument.{channels, thermometers}
 use Rattle.thermometer.specs.Reading.{fromTo}
-use Rattle.table.specs.Opening.{ages, tableSize, opening}
+use Rattle.table.specs.Opening.{ages, tableSize}
+use Rattle.bias.specs.Bias.{biasSize}
+use Rattle.bias.specs.Opening.{bothOpening}
 use Rattle.acceptance.specs.Kept.{mostKept, leastKelvin, mostKelvin}
 use Rattle.window.specs.declared.Window.{Window}
 use Rattle.calibrator.specs.declared.Calibrator.{Calibrator}
@@ -23,7 +25,7 @@ magic = 0x534E4452
 
 -- the version of this layout
 abbrev pub version : ℕ
-version = 1
+version = 2
 
 -- how many numbers the window keeps of each side, and of the thermometers
 abbrev pub countsKept : ℕ
@@ -33,10 +35,10 @@ abbrev pub kelvinsKept : ℕ
 kelvinsKept = thermometers * ages
 
 -- 0x30 has the magic number and the version; 0x31 the table; 0x32 a byte, 1 if a scan was accepted and else 0, and the number of the last;
--- 0x33 and 0x34 what the window keeps of the warm and of the cold counts, 0x35 of the thermometers, as u32, age by age
+-- 0x33 and 0x34 what the window keeps of the warm and of the cold counts, 0x35 of the thermometers, as u32, age by age; 0x36 the bias file
 abbrev pub stateLayout : List Field
 stateLayout =
-    field 0x30 8 ∷ field 0x31 tableSize ∷ field 0x32 5 ∷ field 0x33 (4 * countsKept) ∷ field 0x34 (4 * countsKept) ∷ field 0x35 (4 * kelvinsKept) ∷ []
+    field 0x30 8 ∷ field 0x31 tableSize ∷ field 0x32 5 ∷ field 0x33 (4 * countsKept) ∷ field 0x34 (4 * countsKept) ∷ field 0x35 (4 * kelvinsKept) ∷ field 0x36 biasSize ∷ []
 
 abbrev pub stateSize : ℕ
 stateSize = layoutSize stateLayout
@@ -55,7 +57,7 @@ lastBytes any last = cond any 1 0 ∷ u32Bytes last
 abbrev pub valuesOf : Calibrator → List (List ℕ)
 valuesOf c =
     frontBytes ∷ c .table .bytes ∷ lastBytes (c .window .any) (c .window .last)
-    ∷ numberBytes (c .window .warm) ∷ numberBytes (c .window .cold) ∷ numberBytes (c .window .kelvin) ∷ []
+    ∷ numberBytes (c .window .warm) ∷ numberBytes (c .window .cold) ∷ numberBytes (c .window .kelvin) ∷ c .bias .bytes ∷ []
 
 unfoldable pub stateOf : Calibrator → List ℕ
 stateOf c = laidOut stateLayout (valuesOf c) []
@@ -76,6 +78,9 @@ numbersAt bytes place n = tabulate (λ i. u32At bytes (place + 4 * i)) n
 abbrev pub tableIn : List ℕ → List ℕ
 tableIn state = valueIn stateLayout 1 state
 
+abbrev pub biasIn : List ℕ → List ℕ
+biasIn state = valueIn stateLayout 6 state
+
 unfoldable pub windowIn : List ℕ → Window
 windowIn state = record {
   any = eqb (getD state (at 2) 0) 1;
@@ -86,7 +91,7 @@ windowIn state = record {
 }
 
 abbrev pub calibratorIn : List ℕ → Calibrator
-calibratorIn state = record { table = record { bytes = tableIn state }; window = windowIn state }
+calibratorIn state = record { table = record { bytes = tableIn state }; bias = record { bytes = biasIn state }; window = windowIn state }
 
 -- ---- which bytes are a state
 -- how many ages can have samples: the scan of age k has the number last - k, and before the first accepted scan there is none
@@ -110,8 +115,8 @@ unfoldable pub frontIsRight : List ℕ → Bool
 frontIsRight state =
     allHold (layoutIsRight state 0 stateLayout ∷ eqb (u32At state (at 0)) magic ∷ eqb (u32At state (at 0 + 4)) version ∷ leb (getD state (at 2) 0) 1 ∷ [])
 
--- the bytes reach to the end of a state; its front is right; its table would be accepted; its window's values are in their ranges. Bytes behind
--- a state are not looked at.
+-- the bytes reach to the end of a state; its front is right; its table and its bias file would be accepted; its window's values are in their
+-- ranges. Bytes behind a state are not looked at.
 unfoldable pub isState : List ℕ → Bool
 isState state =
-    allHold (leb stateSize (length state) ∷ frontIsRight state ∷ eqb (numberOf (opening (tableIn state))) 0 ∷ windowInside (windowIn state) ∷ [])
+    allHold (leb stateSize (length state) ∷ frontIsRight state ∷ eqb (numberOf (bothOpening (tableIn state) (biasIn state))) 0 ∷ windowInside (windowIn state) ∷ [])

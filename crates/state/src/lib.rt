@@ -8,8 +8,10 @@ ghost use Rattle.lists.specs.Build.{put};
 ghost use Rattle.fields.specs.Fields.{headSize, fieldBytes};
 ghost use Rattle.thermometer.specs.Reading.{fromTo};
 ghost use Rattle.table.specs.Opening.{AcceptedTable};
+ghost use Rattle.bias.specs.Opening.{AcceptedBias};
 ghost use Rattle.state.specs.State.{countsKept, kelvinsKept, stateSize, saved, numberBytes, frontBytes, lastBytes, numbersAt, windowIn, agesReached, numbersInside, windowInside, frontIsRight};
 ghost use Rattle.state.specs.Steps.{windowStart, windowBytes};
+use bias::BIAS_SIZE;
 use calibrator::Calibrator;
 use fields::HEAD;
 use instrument::CHANNELS;
@@ -23,18 +25,19 @@ use window::Window;
 // `SNDR` in ASCII, and the version of the layout.
 const MAGIC: u32 = 0x534E4452;
 
-const VERSION: u32 = 1;
+const VERSION: u32 = 2;
 
 // The layout, and where the value of each field starts.
-const TAGS: [u8; 6] = [0x30, 0x31, 0x32, 0x33, 0x34, 0x35];
+const TAGS: [u8; 7] = [0x30, 0x31, 0x32, 0x33, 0x34, 0x35, 0x36];
 
-const SIZES: [u16; 6] = [
+const SIZES: [u16; 7] = [
     8,
     TABLE_SIZE as u16,
     5,
     4 * COUNTS_KEPT as u16,
     4 * COUNTS_KEPT as u16,
     4 * KELVINS_KEPT as u16,
+    BIAS_SIZE as u16,
 ];
 
 const FRONT_AT: usize = HEAD;
@@ -49,7 +52,9 @@ const COLD_AT: usize = WARM_AT + SIZES[3] as usize + HEAD;
 
 const KELVIN_AT: usize = COLD_AT + SIZES[4] as usize + HEAD;
 
-pub const STATE_SIZE: usize = KELVIN_AT + SIZES[5] as usize;
+pub const BIAS_AT: usize = KELVIN_AT + SIZES[5] as usize + HEAD;
+
+pub const STATE_SIZE: usize = BIAS_AT + SIZES[6] as usize;
 
 // What a thermometer and a side keep, where they keep anything.
 const LEAST_KELVIN: u32 = 1_118_822 - 245_760;
@@ -242,11 +247,12 @@ fn put_window(out: &mut [u8], any: bool, last: u32, warm: &[u32], cold: &[u32], 
 
 // The calibrator in the place of the state.
 pub fn save(state: &mut [u8], calibrator: Calibrator)
-    requires { ⌜ (stateSize ≤ length (now state)) × AcceptedTable (calibrator .table .bytes) ⌝ }
+    requires { ⌜ (stateSize ≤ length (now state)) × AcceptedTable (calibrator .table .bytes) × AcceptedBias (calibrator .bias .bytes) ⌝ }
     ensures { λ _. ⌜ now (state .exit) ≡ saved (now (state .entry)) calibrator ⌝ }
 {
     let front = front_bytes();
     let table = calibrator.table().bytes();
+    let bias = calibrator.bias().bytes();
     let window = calibrator.window();
     let warm = window.warm;
     let cold = window.cold;
@@ -254,4 +260,5 @@ pub fn save(state: &mut [u8], calibrator: Calibrator)
     put_field(state, 0, TAGS[0], &front);
     put_field(state, TABLE_AT - HEAD, TAGS[1], &table);
     put_window(state, window.any, window.last, &warm, &cold, &kelvin);
+    put_field(state, BIAS_AT - HEAD, TAGS[6], &bias);
 }

@@ -10,23 +10,24 @@ use Rattle.calibrator.specs.declared.Calibrator.{Calibrator}
 use Rattle.calibrator.specs.Feeding.{freshOf}
 use Rattle.feeds.specs.FeedList.{answerAt, buffersAt}
 
--- version 1.0.0
+-- version 2.0.0
 abbrev pub libraryVersion : ℕ
-libraryVersion = 10000
+libraryVersion = 20000
 
 -- t, or what stood there before where there is none
 abbrev pub unitsOr : Result → ℤ → ℤ
 unitsOr (units t) before = t
 unitsOr (refused n) before = before
 
--- ---- a list fed to a fresh calibrator under this table; a refused table writes nothing
-abbrev pub freshUnder : List ℕ → Calibrator
-freshUnder table = freshOf (record { bytes = table })
+-- ---- a list fed to a fresh calibrator under this table and this bias file; a refusal of either writes nothing
+abbrev pub freshUnder : (table bias : List ℕ) → Calibrator
+freshUnder table bias = freshOf (record { bytes = table }) (record { bytes = bias })
 
-abbrev pub answersBy : Verdict → (table records recordLengths buffers bufferLengths answers : List ℕ) → List ℕ
-answersBy passes table records recordLengths buffers bufferLengths answers = tabulate (answerAt (freshUnder table) records recordLengths buffers bufferLengths) (length answers)
-answersBy (fails number) table records recordLengths buffers bufferLengths answers = answers
+abbrev pub answersBy : Verdict → (table bias records recordLengths buffers bufferLengths answers : List ℕ) → List ℕ
+answersBy passes table bias records recordLengths buffers bufferLengths answers =
+    tabulate (answerAt (freshUnder table bias) records recordLengths buffers bufferLengths) (length answers)
+answersBy (fails number) table bias records recordLengths buffers bufferLengths answers = answers
 
-abbrev pub buffersBy : Verdict → (table records recordLengths buffers bufferLengths : List ℕ) → ℕ → List ℕ
-buffersBy passes table records recordLengths buffers bufferLengths n = buffersAt (freshUnder table) records recordLengths buffers bufferLengths n
-buffersBy (fails number) table records recordLengths buffers bufferLengths n = buffers
+abbrev pub buffersBy : Verdict → (table bias records recordLengths buffers bufferLengths : List ℕ) → ℕ → List ℕ
+buffersBy passes table bias records recordLengths buffers bufferLengths n = buffersAt (freshUnder table bias) records recordLengths buffers bufferLengths n
+buffersBy (fails number) table bias records recordLengths buffers bufferLengths n = buffers

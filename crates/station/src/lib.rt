@@ -4,6 +4,7 @@ ghost use lib.ListN.{length};
 ghost use Rattle.lists.specs.Tests.{numberOf};
 ghost use Rattle.thermometer.specs.Reading.{number, reading};
 ghost use Rattle.table.specs.Opening.{opening};
+ghost use Rattle.bias.specs.Opening.{biasOpening, bothOpening};
 ghost use Rattle.state.specs.State.{stateSize};
 ghost use Rattle.live.specs.Calls.{freshVerdict, freshBy, fedState, CallLeaves};
 ghost use Rattle.station.specs.Calls.{libraryVersion, unitsOr, answersBy, buffersBy};
@@ -18,6 +19,16 @@ pub extern "C" fn sounder_open(table: &[u8]) -> u8
     let opened = table::open(table);
     let answer = opened.answer;
     table::refusal_number(answer)
+}
+
+// Request W1: opening a bias file: 0, or 1 to 3.
+#[no_mangle]
+pub extern "C" fn sounder_open_bias(bias: &[u8]) -> u8
+    ensures { λ n. ⌜ n ≡ numberOf (biasOpening (now (bias .entry))) ⌝ }
+{
+    let opened = bias::open(bias);
+    let outcome = opened.answer;
+    table::refusal_number(outcome)
 }
 
 // Document 01, "One thermometer": 0 and t in units of °C, or 8 to 10 and t as it was.
@@ -47,17 +58,18 @@ pub extern "C" fn sounder_thermometer(
     }
 }
 
-// Opens the table and, where it is accepted, feeds a fresh calibrator the list: 0, or the number of the refusal.
+// Opens the table and the bias file and, where both are accepted, feeds a fresh calibrator the list: 0, or the number of the first refusal.
 #[no_mangle]
 pub extern "C" fn sounder_feed_all(
     table: &[u8],
+    bias: &[u8],
     records: &[u8],
     record_lengths: &[u32],
     buffers: &mut [u8],
     buffer_lengths: &[u32],
     answers: &mut [u8],
 ) -> u8
-    ensures { λ n. ⌜ (n ≡ numberOf (opening (now (table .entry)))) × (now (answers .exit) ≡ answersBy (opening (now (table .entry))) (now (table .entry)) (now (records .entry)) (now («record_lengths» .entry)) (now (buffers .entry)) (now («buffer_lengths» .entry)) (now (answers .entry))) × (now (buffers .exit) ≡ buffersBy (opening (now (table .entry))) (now (table .entry)) (now (records .entry)) (now («record_lengths» .entry)) (now (buffers .entry)) (now («buffer_lengths» .entry)) (length (now (answers .entry)))) ⌝ }
+    ensures { λ n. ⌜ (n ≡ numberOf (bothOpening (now (table .entry)) (now (bias .entry)))) × (now (answers .exit) ≡ answersBy (bothOpening (now (table .entry)) (now (bias .entry))) (now (table .entry)) (now (bias .entry)) (now (records .entry)) (now («record_lengths» .entry)) (now (buffers .entry)) (now («buffer_lengths» .entry)) (now (answers .entry))) × (now (buffers .exit) ≡ buffersBy (bothOpening (now (table .entry)) (now (bias .entry))) (now (table .entry)) (now (bias .entry)) (now (records .entry)) (now («record_lengths» .entry)) (now (buffers .entry)) (now («buffer_lengths» .entry)) (length (now (answers .entry)))) ⌝ }
 {
     let opened = table::open(table);
     let answer = opened.answer;
@@ -65,9 +77,14 @@ pub extern "C" fn sounder_feed_all(
     if number != 0 {
         return number;
     }
-    let accepted = opened.table();
+    let pairs = bias::open(bias);
+    let second = pairs.answer;
+    let after = table::refusal_number(second);
+    if after != 0 {
+        return after;
+    }
     feeds::feed_list(
-        Calibrator::fresh(accepted),
+        Calibrator::fresh(opened.table(), pairs.bias()),
         records,
         record_lengths,
         buffers,
@@ -87,12 +104,12 @@ pub extern "C" fn sounder_state_size() -> usize
     state::STATE_SIZE
 }
 
-// Writes the state of a fresh calibrator under this table: 0, 1 to 3, or 254 where the state is too short.
+// Writes the state of a fresh calibrator under this table and this bias file: 0, 1 to 3, or 254 where the state is too short.
 #[no_mangle]
-pub extern "C" fn sounder_fresh(table: &[u8], state: &mut [u8]) -> u8
-    ensures { λ n. ⌜ (n ≡ numberOf (freshVerdict (now (table .entry)) (now (state .entry)))) × (now (state .exit) ≡ freshBy (freshVerdict (now (table .entry)) (now (state .entry))) (now (table .entry)) (now (state .entry))) ⌝ }
+pub extern "C" fn sounder_fresh(table: &[u8], bias: &[u8], state: &mut [u8]) -> u8
+    ensures { λ n. ⌜ (n ≡ numberOf (freshVerdict (now (table .entry)) (now (bias .entry)) (now (state .entry)))) × (now (state .exit) ≡ freshBy (freshVerdict (now (table .entry)) (now (bias .entry)) (now (state .entry))) (now (table .entry)) (now (bias .entry)) (now (state .entry))) ⌝ }
 {
-    live::fresh(table, state)
+    live::fresh(table, bias, state)
 }
 
 // Feeds a scan to the calibrator of a state: 0, 254 where the bytes are no state, or 4 to 7.
@@ -108,5 +125,5 @@ pub extern "C" fn sounder_feed(state: &mut [u8], scan: &[u8], buffer: &mut [u8])
 pub extern "C" fn sounder_version() -> u32
     ensures { λ n. ⌜ n ≡ libraryVersion ⌝ }
 {
-    10_000
+    20_000
 }

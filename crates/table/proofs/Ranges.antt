@@ -32,7 +32,7 @@ in-between {low} {high} {x} holds =
     let tests = both (leb low x) (leb x high) holds in
     (leb-true low x (tests .0), leb-true x high (tests .1))
 
-bounded : {m : ℕ} {z : ℤ} → sizeTo m z ≡ true → Bounded z (pos m)
+pub bounded : {m : ℕ} {z : ℤ} → sizeTo m z ≡ true → Bounded z (pos m)
 bounded {m} {z} holds =
     let tests = both (leZ (negℤ (pos m)) z) (leZ z (pos m)) holds in
     record { low = leZ-true (tests .0); high = leZ-true (tests .1) }

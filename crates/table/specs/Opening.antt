@@ -3,11 +3,11 @@
 use Prim.Native.Nat.{ℕ}
 use mathlib.Core.Path.{_≡_}
 use mathlib.Core.List.{List, [], _∷_}
-use mathlib.Core.Bool.{not}
+use mathlib.Core.Bool.{Bool, not}
 use lib.Dec.{eqb}
 use lib.ListN.{length, replicate}
 use Rattle.lists.specs.Tests.{Verdict, passes, fails, _when_, firstThatApplies}
-use Rattle.fields.specs.Fields.{layoutSize, layoutIsRight}
+use Rattle.fields.specs.Fields.{Field, layoutSize, layoutIsRight}
 use Rattle.table.specs.declared.Opening.{Opening}
 use Rattle.table.specs.declared.Opening.the-variants.{Accepted, LengthWrong, FieldWrong, ValueOutside}
 use Rattle.table.specs.Settings.{tableLayout, settingsOf}
@@ -27,16 +27,23 @@ verdictOf LengthWrong = fails 1
 verdictOf FieldWrong = fails 2
 verdictOf ValueOutside = fails 3
 
+-- bytes with this layout, and whether its values are in their ranges
+abbrev pub openingBy : (layout : List Field) (inside : Bool) → List ℕ → Verdict
+openingBy layout inside bytes =
+    firstThatApplies ((1 when not (eqb (length bytes) (layoutSize layout))) ∷ (2 when not (layoutIsRight bytes 0 layout)) ∷ (3 when not inside) ∷ [])
+
 unfoldable pub opening : List ℕ → Verdict
-opening bytes =
-    firstThatApplies ((1 when not (eqb (length bytes) tableSize))
-    ∷ (2 when not (layoutIsRight bytes 0 (tableLayout ages))) ∷ (3 when not (valuesInside (settingsOf ages bytes))) ∷ [])
+opening bytes = openingBy (tableLayout ages) (valuesInside (settingsOf ages bytes)) bytes
 
 -- opening meets no refusal
 pub record AcceptedTable (bytes : List ℕ) : Type 0 where
   pub accepted : opening bytes ≡ passes
 
--- an accepted table is its bytes; beside a refusal stand as many bytes of 0, of which `AcceptedTable` does not hold (decision 21)
+-- what is accepted is its bytes; beside a refusal stand as many bytes of 0
+abbrev pub openedBy : (size : ℕ) → Verdict → List ℕ → List ℕ
+openedBy size passes bytes = bytes
+openedBy size (fails n) bytes = replicate size 0
+
+-- of bytes of 0 `AcceptedTable` does not hold (decision 21)
 abbrev pub tableBy : Verdict → List ℕ → List ℕ
-tableBy passes bytes = bytes
-tableBy (fails n) bytes = replicate tableSize 0
+tableBy verdict bytes = openedBy tableSize verdict bytes

@@ -116,7 +116,8 @@ pub fn from_to(low: u32, high: u32, x: u32) -> bool
     x <= high
 }
 
-fn size_to(most: u32, z: i64) -> bool
+// Whether z is from -most to most.
+pub fn size_to(most: u32, z: i64) -> bool
     ensures { λ b. ⌜ b ≡ sizeTo most z ⌝ }
 {
     let m = most as i64;

@@ -12,6 +12,7 @@ use Rattle.scene.specs.declared.Constants.{Constants}
 use Rattle.scene.specs.Ranges.{ConstantsRange}
 use Rattle.scene.specs.declared.Channel.{Channel}
 use Rattle.product.specs.Scenes.{noChannel}
+use Rattle.product.specs.Steps.{byPairs}
 use Rattle.product.specs.Ranges.{ChannelRange}
 use Rattle.product.specs.Product.{productOf, deliveredCount, productSize}
 use Rattle.instrument.specs.Instrument.{channels}
@@ -35,22 +36,23 @@ alike-channels-requires c κs = search needs
 
 write-product-requires : tie.Need-write-product-requires
 write-product-requires c κs =
-    let s = c .before .before .before .before in
+    let s = c .before .before .before .before .before in
     let back = constants-read-back (s .fits .tc) (s .fits .rise) (s .fits .tnl) (s .fits .d) (s .fits .slope) (s .fits .base) in
     let same = c .alike-channels .ensures ∙ ap alikeChannels back in
-    (s .pre .0, s .pre .1, subst (λ (l : List Channel). (i : ℕ) → i < channels → ChannelRange (getD l i noChannel)) (sym same) (each-in-range (s .pre .2)))
+    ((s .pre .0 .0, s .pre .0 .1, subst (λ (l : List Channel). (i : ℕ) → i < channels → ChannelRange (getD l i noChannel)) (sym same) (each-in-range (s .pre .0 .2))), s .pre .1)
 
 same-length : tie.Need-same-length
 same-length c = search needs
 
 returns : tie.Need-returns
 returns c =
-    let s = c .before .before .before .before .before .before .before in
+    let s = c .before .before .before .before .before .before .before .before in
+    let deliver = byPairs (s .args .pairs .now) in
     let back = constants-read-back (s .fits .tc) (s .fits .rise) (s .fits .tnl) (s .fits .d) (s .fits .slope) (s .fits .base) in
     let same = c .before .before .before .alike-channels .ensures ∙ ap alikeChannels back in
     let written = c .before .before .write-product .ensures in (
-      written .0 ∙ ap (λ (l : List Channel). deliveredCount l (s .args .earth .now)) same,
-      written .1 ∙ ap (λ (l : List Channel). productOf (s .args .number) l (s .args .earth .now) ++ drop productSize (s .args .buffer .now)) same,
+      written .0 ∙ ap (λ (l : List Channel). deliveredCount deliver l (s .args .earth .now)) same,
+      written .1 ∙ ap (λ (l : List Channel). productOf deliver (s .args .number) l (s .args .earth .now) ++ drop productSize (s .args .buffer .now)) same,
     )
 
 pub compared-product-spec : {M : Type 1} → statement M

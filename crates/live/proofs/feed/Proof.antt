@@ -1,26 +1,42 @@
 -- `feed` meets its contract: each test that fails says that the bytes are no state; where all hold, they are one, and the calibrator that is fed
 -- is the one that is read from it.
-use Prim.Native.Nat.{ℕ}
-use mathlib.Core.Path.{sym, ap, ap₂, subst, _∙_}
-use mathlib.Core.List.{List}
+use mathlib.Core.Path.{_≡_, sym, ap, subst, _∙_}
 use denote.Ref.{now}
 use borrow.Author.Tests.{not-true, not-false}
-use Rattle.table.specs.declared.Table.{Table}
-use Rattle.table.proofs.OpeningLaws.{table-when-passed, accepted-when-passed}
-use Rattle.window.specs.declared.Window.{Window}
+use Rattle.lists.specs.Tests.{passes}
+use Rattle.table.specs.Opening.{opening}
+use Rattle.table.proofs.OpenedLaws.{number-is, passed-at-zero}
+use Rattle.bias.specs.Opening.{biasOpening}
+use Rattle.bias.proofs.OpeningLaws.{both-by-table, both-by-bias, both-pass}
 use Rattle.calibrator.specs.declared.Calibrator.{Calibrator}
 use Rattle.calibrator.specs.Feeding.{Feed, step}
-use Rattle.state.specs.State.{tableIn, windowInside}
-use Rattle.live.specs.Calls.{leftBy, CallLeaves}
-use Rattle.table.proofs.OpenedLaws.{number-is, passed-at-zero}
+use Rattle.state.specs.State.{tableIn, biasIn, calibratorIn, windowInside}
 use Rattle.state.proofs.InsideLaws.{window-in-range}
-use Rattle.live.proofs.CallLaws.{short-is-no-state, wrong-front-is-no-state, refused-table-is-no-state, window-outside-is-no-state, is-state-when, no-state-leaves, state-leaves}
+use Rattle.live.specs.Calls.{leftBy, CallLeaves}
+use Rattle.live.proofs.HandedLaws.{handed-table, handed-table-accepted, handed-bias, handed-bias-accepted}
+use Rattle.live.proofs.CallLaws.{short-is-no-state, wrong-front-is-no-state, refused-is-no-state, window-outside-is-no-state, is-state-when, no-state-leaves, state-leaves}
 use borrow.Author.Needs.{needs}
 use Rattle.live.proofs.feed.Statement.{statement}
 use Rattle.live.proofs.feed.Tie as tie
 
 abbrev feedOf : tie.Start → Feed
 feedOf start = record { scan = now (start .args .scan); buffer = now (start .args .buffer) }
+
+-- ---- neither the table nor the bias file was refused
+abbrev startOf : tie.Else3 → tie.Start
+startOf x = x .before .before .before .before .before .before .before .before .before .before .before .before
+
+table-passed : (x : tie.Else3) → opening (tableIn (now (startOf x .args .state))) ≡ passes
+table-passed x =
+    let number = x .before in
+    let opened = number .before in
+    passed-at-zero (opened .«open» .result .answer) (opened .«open» .ensures .0) (number .refusal-number .ensures) (x .if3 .left)
+
+bias-passed : (x : tie.Else4) → biasOpening (biasIn (now (startOf (x .before .before .before .before .before) .args .state))) ≡ passes
+bias-passed x =
+    let number = x .before in
+    let opened = number .before in
+    passed-at-zero (opened .open2 .result .answer) (opened .open2 .ensures .0) (number .refusal-number2 .ensures) (x .if4 .left)
 
 returns : tie.Need-returns
 returns c =
@@ -67,8 +83,39 @@ returns-3 c =
     let opened = number .before in
     let start = opened .before .before .before .before .before .before .before .before .before .before in
     let state = now (start .args .state) in
-    let is = number-is (tableIn state) (opened .«open» .result .answer) (opened .«open» .ensures .0) (number .refusal-number .ensures) in
-    no-state-leaves state (feedOf start) (refused-table-is-no-state state (λ zero. c .if3 .taken (is ∙ zero)))
+    let is = number-is (opened .«open» .result .answer) (opened .«open» .ensures .0) (number .refusal-number .ensures) in
+    no-state-leaves state (feedOf start) (refused-is-no-state state (both-by-table (tableIn state) (biasIn state) is (c .if3 .taken)) (c .if3 .taken))
+
+add-open-2 : tie.Need-add-open-2
+add-open-2 c = search needs
+
+sub-open-2 : tie.Need-sub-open-2
+sub-open-2 c = search needs
+
+part-open-start-2 : tie.Need-part-open-start-2
+part-open-start-2 c = search needs
+
+part-open-end-2 : tie.Need-part-open-end-2
+part-open-end-2 c = search needs
+
+open-requires-2 : tie.Need-open-requires-2
+open-requires-2 c κs = search needs
+
+refusal-number-requires-2 : tie.Need-refusal-number-requires-2
+refusal-number-requires-2 c κs = search needs
+
+same-length-3 : tie.Need-same-length-3
+same-length-3 c = search needs
+
+returns-4 : tie.Need-returns-4
+returns-4 c =
+    let number = c .before in
+    let opened = number .before in
+    let third = opened .before .before .before in
+    let start = startOf third in
+    let state = now (start .args .state) in
+    let is = number-is (opened .open2 .result .answer) (opened .open2 .ensures .0) (number .refusal-number2 .ensures) in
+    no-state-leaves state (feedOf start) (refused-is-no-state state (both-by-bias (tableIn state) (biasIn state) (table-passed third) is) (c .if4 .taken))
 
 window-in-requires : tie.Need-window-in-requires
 window-in-requires c κs = search needs
@@ -76,62 +123,71 @@ window-in-requires c κs = search needs
 window-inside-requires : tie.Need-window-inside-requires
 window-inside-requires c κs = search needs
 
-same-length-3 : tie.Need-same-length-3
-same-length-3 c = search needs
+same-length-4 : tie.Need-same-length-4
+same-length-4 c = search needs
 
-returns-4 : tie.Need-returns-4
-returns-4 c =
+returns-5 : tie.Need-returns-5
+returns-5 c =
     let inside = c .before in
     let read = inside .before in
-    let start = c .before .before .before .before .before .before .before .before .before .before .before .before .before .before .before .before in
+    let start = startOf (read .before .before .before .before .before .before .before) in
     let state = now (start .args .state) in
     no-state-leaves state (feedOf start)
-    (window-outside-is-no-state state (ap windowInside (sym (read .window-in .ensures)) ∙ sym (inside .window-inside .ensures) ∙ not-true _ (c .if4 .taken)))
+    (window-outside-is-no-state state (ap windowInside (sym (read .window-in .ensures)) ∙ sym (inside .window-inside .ensures) ∙ not-true _ (c .if5 .taken)))
 
 table-requires : tie.Need-table-requires
 table-requires c κs = search needs
 
+bias-requires : tie.Need-bias-requires
+bias-requires c κs = search needs
+
 restored-requires : tie.Need-restored-requires
 restored-requires c κs =
-    let test = c .before in
-    let number = c .before .before .before .before .before .before in
-    let opened = number .before in (
-      accepted-when-passed _ (ap (λ (t : Table). t .bytes) (c .table .ensures) ∙ opened .«open» .ensures .1)
-          (passed-at-zero _ (opened .«open» .result .answer) (opened .«open» .ensures .0) (number .refusal-number .ensures) (c .before .before .before .before .before .if3 .left)),
-      window-in-range (sym (test .before .window-inside .ensures) ∙ not-false _ (test .if4 .left)),
+    let last = c .before .before in
+    let fourth = last .before .before .before .before in
+    let pairs = fourth .before .before in
+    let third = pairs .before .before .before in
+    let opened = third .before .before in (
+      handed-table-accepted _ (c .before .table .ensures) (opened .«open» .ensures .1) (table-passed third),
+      handed-bias-accepted _ (c .bias .ensures) (pairs .open2 .ensures .1) (bias-passed fourth) (pairs .open2 .ensures .2),
+      window-in-range (sym (last .before .window-inside .ensures) ∙ not-false _ (last .if5 .left)),
     )
 
 feed-restored-requires : tie.Need-feed-restored-requires
-feed-restored-requires c κs = (c .before .before .restored .ensures .1, c .before .before .before .before .before .before .before .before .before .before .before .before .before .before .before .before .if1 .left)
-
-same-length-4 : tie.Need-same-length-4
-same-length-4 c = search needs
+feed-restored-requires c κs = (c .before .before .restored .ensures .1, c .before .before .before .before .before .before .before .before .before .before .before .before .before .before .before .before .before .before .before .before .before .before .if1 .left)
 
 same-length-5 : tie.Need-same-length-5
 same-length-5 c = search needs
 
-returns-5 : tie.Need-returns-5
-returns-5 c =
+same-length-6 : tie.Need-same-length-6
+same-length-6 c = search needs
+
+returns-6 : tie.Need-returns-6
+returns-6 c =
     let fed = c .before .before .before .before in
     let again = fed .before .before .before in
-    let handed = again .before in
-    let last = handed .before in
+    let bias = again .before in
+    let table = bias .before in
+    let last = table .before in
     let inside = last .before in
     let read = inside .before in
-    let third = read .before .before in
-    let number = third .before in
-    let opened = number .before in
+    let fourth = read .before .before in
+    let pairs = fourth .before .before in
+    let third = pairs .before .before .before in
+    let opened = third .before .before in
     let second = opened .before .before .before in
     let right = second .before in
     let first = right .before .before in
-    let start = first .before .before .before .before in
+    let start = startOf third in
     let state = now (start .args .state) in
-    let passed = passed-at-zero (tableIn state) (opened .«open» .result .answer) (opened .«open» .ensures .0) (number .refusal-number .ensures) (third .if3 .left) in
+    let passed = table-passed third in
+    let also = bias-passed fourth in
     let window = read .window-in .ensures in
-    let table = handed .table .ensures ∙ ap (λ (b : List ℕ). record { bytes = b }) (table-when-passed _ (opened .«open» .ensures .1) passed) in
-    let all = ap windowInside (sym window) ∙ sym (inside .window-inside .ensures) ∙ not-false _ (last .if4 .left) in
-    let is = is-state-when state (first .if1 .left) (sym (right .front-is-right .ensures) ∙ not-false _ (second .if2 .left)) passed all in
-    let restored = again .restored .ensures .0 ∙ ap₂ (λ (t : Table) (w : Window). record { table = t; window = w }) table window in
+    let all = ap windowInside (sym window) ∙ sym (inside .window-inside .ensures) ∙ not-false _ (last .if5 .left) in
+    let is = is-state-when state (first .if1 .left) (sym (right .front-is-right .ensures) ∙ not-false _ (second .if2 .left)) (both-pass _ _ passed also) all in
+    let restored : again .restored .result ≡ calibratorIn state =
+    again .restored .ensures .0
+    ∙ rw (handed-table _ (table .table .ensures) (opened .«open» .ensures .1) passed, handed-bias _ (bias .bias .ensures) (pairs .open2 .ensures .1) also, window) in
     state-leaves state (feedOf start) is
     (subst (λ (d : Calibrator). CallLeaves (leftBy state (step d (feedOf start))) (fed .feed-restored .result) (fed .feed-restored .last .1 .0) (fed .feed-restored .last .1 .1 .1 .0)) restored (fed .feed-restored .ensures))
 
@@ -151,13 +207,22 @@ feed-spec =
     refusal-number-requires
     same-length-2
     returns-3
-    window-in-requires
-    window-inside-requires
+    add-open-2
+    sub-open-2
+    part-open-start-2
+    part-open-end-2
+    open-requires-2
+    refusal-number-requires-2
     same-length-3
     returns-4
+    window-in-requires
+    window-inside-requires
+    same-length-4
+    returns-5
     table-requires
+    bias-requires
     restored-requires
     feed-restored-requires
-    same-length-4
     same-length-5
-    returns-5)
+    same-length-6
+    returns-6)

@@ -1,17 +1,34 @@
 -- `fresh` meets its contract: each return is what the tests that led there make of `freshVerdict`.
-use mathlib.Core.Path.{ap, _∙_}
-use mathlib.Core.List.{List}
-use Prim.Native.Nat.{ℕ}
+use mathlib.Core.Path.{_≡_, ap, ap₂, _∙_}
 use denote.Ref.{now}
-use Rattle.table.specs.declared.Table.{Table}
-use Rattle.table.proofs.OpeningLaws.{table-when-passed, accepted-when-passed}
-use Rattle.calibrator.specs.Feeding.{freshOf}
+use Rattle.lists.specs.Tests.{passes}
+use Rattle.table.specs.Opening.{opening}
 use Rattle.table.proofs.OpenedLaws.{number-is, passed-at-zero}
+use Rattle.bias.specs.Opening.{biasOpening}
+use Rattle.bias.proofs.OpeningLaws.{both-by-table, both-by-bias, both-pass}
+use Rattle.calibrator.specs.Feeding.{freshOf}
 use Rattle.state.specs.State.{saved}
-use Rattle.live.proofs.CallLaws.{refused-by-table, no-room, fresh-saved}
+use Rattle.live.proofs.HandedLaws.{handed-table, handed-table-accepted, handed-bias, handed-bias-accepted}
+use Rattle.live.proofs.CallLaws.{refused-by-opening, no-room, fresh-saved}
 use borrow.Author.Needs.{needs}
 use Rattle.live.proofs.fresh.Statement.{statement}
 use Rattle.live.proofs.fresh.Tie as tie
+
+-- ---- neither was refused
+abbrev startOf : tie.Else1 → tie.Start
+startOf x = x .before .before .before .before .before .before
+
+table-passed : (x : tie.Else1) → opening (now (startOf x .args .table)) ≡ passes
+table-passed x =
+    let number = x .before in
+    let opened = number .before in
+    passed-at-zero (opened .«open» .result .answer) (opened .«open» .ensures .0) (number .refusal-number .ensures) (x .if1 .left)
+
+bias-passed : (x : tie.Else2) → biasOpening (now (startOf (x .before .before .before) .args .bias)) ≡ passes
+bias-passed x =
+    let number = x .before in
+    let opened = number .before in
+    passed-at-zero (opened .open2 .result .answer) (opened .open2 .ensures .0) (number .refusal-number2 .ensures) (x .if2 .left)
 
 open-requires : tie.Need-open-requires
 open-requires c κs = search needs
@@ -23,29 +40,50 @@ returns : tie.Need-returns
 returns c =
     let number = c .before in
     let opened = number .before in
-    let a = opened .before .before .before .args in
-    let is = number-is _ (opened .«open» .result .answer) (opened .«open» .ensures .0) (number .refusal-number .ensures) in
-    let leaves = refused-by-table (now (a .table)) (now (a .state)) (λ zero. c .if1 .taken (is ∙ zero)) in
-    (is ∙ leaves .answer-is, leaves .state-is)
+    let a = opened .before .before .before .before .args in
+    let is = both-by-table (now (a .table)) (now (a .bias)) (number-is (opened .«open» .result .answer) (opened .«open» .ensures .0) (number .refusal-number .ensures)) (c .if1 .taken) in
+    let leaves = refused-by-opening (now (a .table)) (now (a .bias)) (now (a .state)) is (c .if1 .taken) in
+    (leaves .answer-is, leaves .state-is)
+
+open-requires-2 : tie.Need-open-requires-2
+open-requires-2 c κs = search needs
+
+refusal-number-requires-2 : tie.Need-refusal-number-requires-2
+refusal-number-requires-2 c κs = search needs
 
 returns-2 : tie.Need-returns-2
 returns-2 c =
-    let number = c .before .before in
+    let number = c .before in
     let opened = number .before in
-    let a = opened .before .before .before .args in
-    let passed = passed-at-zero _ (opened .«open» .result .answer) (opened .«open» .ensures .0) (number .refusal-number .ensures) (c .before .if1 .left) in
-    let leaves = no-room (now (a .table)) (now (a .state)) passed (c .if2 .taken) in
+    let first = opened .before in
+    let a = startOf first .args in
+    let is = both-by-bias (now (a .table)) (now (a .bias)) (table-passed first) (number-is (opened .open2 .result .answer) (opened .open2 .ensures .0) (number .refusal-number2 .ensures)) in
+    let leaves = refused-by-opening (now (a .table)) (now (a .bias)) (now (a .state)) is (c .if2 .taken) in
+    (leaves .answer-is, leaves .state-is)
+
+returns-3 : tie.Need-returns-3
+returns-3 c =
+    let second = c .before in
+    let first = second .before .before .before in
+    let a = startOf first .args in
+    let leaves = no-room (now (a .table)) (now (a .bias)) (now (a .state)) (both-pass _ _ (table-passed first) (bias-passed second)) (c .if3 .taken) in
     (leaves .answer-is, leaves .state-is)
 
 table-requires : tie.Need-table-requires
 table-requires c κs = search needs
 
+bias-requires : tie.Need-bias-requires
+bias-requires c κs = search needs
+
 fresh-requires : tie.Need-fresh-requires
 fresh-requires c κs =
-    let number = c .before .before .before .before in
-    let opened = number .before in
-    accepted-when-passed _ (ap (λ (t : Table). t .bytes) (c .table .ensures) ∙ opened .«open» .ensures .1)
-    (passed-at-zero _ (opened .«open» .result .answer) (opened .«open» .ensures .0) (number .refusal-number .ensures) (c .before .before .before .if1 .left))
+    let second = c .before .before .before .before in
+    let pairs = second .before .before in
+    let first = pairs .before in
+    let opened = first .before .before in (
+      handed-table-accepted _ (c .before .table .ensures) (opened .«open» .ensures .1) (table-passed first),
+      handed-bias-accepted _ (c .bias .ensures) (pairs .open2 .ensures .1) (bias-passed second) (pairs .open2 .ensures .2),
+    )
 
 save-requires : tie.Need-save-requires
 save-requires c κs = search needs
@@ -53,19 +91,25 @@ save-requires c κs = search needs
 same-length : tie.Need-same-length
 same-length c = search needs
 
-returns-3 : tie.Need-returns-3
-returns-3 c =
-    let first = c .before .before .before in
-    let handed = first .before in
-    let room = handed .before .before in
-    let test = room .before in
-    let number = test .before in
-    let opened = number .before in
-    let a = opened .before .before .before .args in
-    let passed = passed-at-zero _ (opened .«open» .result .answer) (opened .«open» .ensures .0) (number .refusal-number .ensures) (test .if1 .left) in
-    let bytes = table-when-passed _ (opened .«open» .ensures .1) passed in
-    let is = first .fresh .ensures .0 ∙ ap freshOf (handed .table .ensures ∙ ap (λ (b : List ℕ). record { bytes = b }) bytes) in
-    let leaves = fresh-saved (now (a .table)) (now (a .state)) passed (room .if2 .left) (c .before .before .save .ensures ∙ ap (saved (now (a .state))) is) in
+returns-4 : tie.Need-returns-4
+returns-4 c =
+    let made = c .before .before .before in
+    let bias = made .before in
+    let table = bias .before in
+    let room = table .before .before in
+    let second = room .before in
+    let pairs = second .before .before in
+    let first = pairs .before in
+    let opened = first .before .before in
+    let a = startOf first .args in
+    let passed = table-passed first in
+    let also = bias-passed second in
+    let is =
+    made .fresh .ensures .0
+    ∙ ap₂ freshOf (handed-table _ (table .table .ensures) (opened .«open» .ensures .1) passed) (handed-bias _ (bias .bias .ensures) (pairs .open2 .ensures .1) also) in
+    let leaves =
+    fresh-saved (now (a .table)) (now (a .bias)) (now (a .state)) (both-pass _ _ passed also) (room .if3 .left)
+    (c .before .before .save .ensures ∙ ap (saved (now (a .state))) is) in
     (leaves .answer-is, leaves .state-is)
 
 pub fresh-spec : {M : Type 1} → statement M
@@ -75,9 +119,13 @@ fresh-spec =
     open-requires
     refusal-number-requires
     returns
+    open-requires-2
+    refusal-number-requires-2
     returns-2
+    returns-3
     table-requires
+    bias-requires
     fresh-requires
     save-requires
     same-length
-    returns-3)
+    returns-4)

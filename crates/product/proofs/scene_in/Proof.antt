@@ -14,7 +14,7 @@ scene-of-requires : tie.Need-scene-of-requires
 unfolding scaleIn
 scene-of-requires c κs =
     let s = c .before .before .before in
-    (s .pre .0 .constants (c .before .if1 .left), s .pre .1 ∙ simp (eq-eqb _ _ (c .before .if1 .left)))
+    (s .pre .0 .constants (c .before .if1 .left), s .pre .1 ∙ simp (eq-eqb _ _ (c .before .if1 .left)), s .pre .2)
 
 returns-2 : tie.Need-returns-2
 unfolding sceneIn

@@ -2,21 +2,20 @@
 use Prim.Native.Nat.{ℕ, _+_, _-_, _*_, _≤_}
 use native.Mathlib.Omega.{arith}
 use mathlib.Core.Path.{_≡_, sym, ap, _∙_}
-use mathlib.Core.List.{List, []}
+use mathlib.Core.List.{List}
 use lib.ListN.{getD}
 use Rattle.lists.specs.Sum.{sum}
 use Rattle.lists.proofs.Sum.{sum-none, sum-more}
 use Rattle.instrument.specs.Instrument.{channels}
 use Rattle.product.specs.declared.Summary.{Summary}
-use Rattle.product.specs.Scenes.{noChannel}
-use Rattle.product.specs.Summary.{summaryOf}
+use Rattle.product.specs.Summary.{noneDelivered}
 use Rattle.product.proofs.PastSummaries.{summary-of}
 use borrow.Author.Needs.{needs}
 use Rattle.product.proofs.total_count.Statement.{statement}
 use Rattle.product.proofs.total_count.Tie as tie
 
 abbrev countAt : List Summary → ℕ → ℕ
-countAt all c = getD all c (summaryOf noChannel []) .count
+countAt all c = getD all c noneDelivered .count
 
 abbrev Inv-loop : tie.InvT-loop
 Inv-loop all n₀ c₀ n c = (c ≤ channels) × (n ≡ sum (countAt all) c) × (n ≤ 65535 * c)

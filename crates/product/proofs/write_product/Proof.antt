@@ -17,10 +17,10 @@ use Rattle.fields.proofs.LayoutLaws.{fieldStart}
 use Rattle.fields.proofs.FieldBytes.{headBytes}
 use Rattle.instrument.specs.Instrument.{channels}
 use Rattle.product.specs.declared.Summary.{Summary}
-use Rattle.product.specs.Scenes.{noChannel}
-use Rattle.product.specs.Summary.{summaryOf}
+use Rattle.product.specs.Scenes.{Deliver}
+use Rattle.product.specs.Summary.{noneDelivered}
 use Rattle.product.specs.Product.{productLayout, productSize, flagBytes, sceneBytes, summaries, summariesBytes, productOf}
-use Rattle.product.specs.Steps.{Plain}
+use Rattle.product.specs.Steps.{Plain, byPairs}
 use Rattle.product.proofs.Lengths.{length-flag-bytes, length-scene-bytes, length-summaries-bytes}
 use Rattle.product.proofs.Plain.{plain-summaries}
 use Rattle.product.proofs.SummaryLaws.{counts-of-summaries}
@@ -36,6 +36,10 @@ headOf k = headBytes (fieldAt productLayout k)
 abbrev valueBack : ℕ → List ℕ → List ℕ → List ℕ
 valueBack k whole part = take (valueStart productLayout k) whole ++ (part ++ drop (fieldAt productLayout k .size) (drop (valueStart productLayout k) whole))
 
+-- what is delivered, by the pairs that are lent
+abbrev deliver : tie.Start → ℕ → Deliver
+deliver s = byPairs (now (s .args .pairs))
+
 module _ (s : tie.Start) where
   abbrev withNumber : List ℕ
   withNumber = headOf 0 ++ u32Bytes (s .args .number)
@@ -44,17 +48,17 @@ module _ (s : tie.Start) where
   withFlags = withNumber ++ headOf 1 ++ flagBytes (s .args .states)
 
   abbrev withScenes : List ℕ
-  withScenes = withFlags ++ headOf 2 ++ sceneBytes (s .args .states) (now (s .args .earth))
+  withScenes = withFlags ++ headOf 2 ++ sceneBytes (deliver s) (s .args .states) (now (s .args .earth))
 
   abbrev withSummaries : List ℕ
-  withSummaries = withScenes ++ headOf 3 ++ summariesBytes (summaries (s .args .states) (now (s .args .earth)))
+  withSummaries = withScenes ++ headOf 3 ++ summariesBytes (summaries (deliver s) (s .args .states) (now (s .args .earth)))
 
   abbrev AtFront : List ℕ → ℕ → List ℕ → Type 0
   AtFront = Fronted (now (s .args .buffer))
 
   room : {front whole : List ℕ} {n m : ℕ} → AtFront front n whole → n ≤ productSize → m ≤ productSize → m ≤ length whole
   room {m = m} fronted inside within =
-      subst (λ (k : ℕ). m ≤ k) (sym (length-fronted fronted (le-trans inside (s .pre .0)))) (le-trans within (s .pre .0))
+      subst (λ (k : ℕ). m ≤ k) (sym (length-fronted fronted (le-trans inside (s .pre .0 .0)))) (le-trans within (s .pre .0 .0))
 
   value-room : {front whole : List ℕ} {n : ℕ} (k : ℕ) → AtFront front n whole → n ≤ productSize → valueStart productLayout k + fieldAt productLayout k .size ≤ productSize
       → length (take (fieldAt productLayout k .size) (drop (valueStart productLayout k) whole)) ≡ fieldAt productLayout k .size
@@ -62,7 +66,7 @@ module _ (s : tie.Start) where
       length-part whole (valueStart productLayout k) (fieldAt productLayout k .size) (room fronted inside within)
 
 abbrev start1 : tie.After-put-head → tie.Start
-start1 c = c .before .before .before .before
+start1 c = c .before .before .before .before .before
 
 abbrev start2 : tie.After-put-u32 → tie.Start
 start2 c = start1 (c .before .before .before .before)
@@ -107,8 +111,8 @@ scenes-value : (c : tie.After-write-scenes) → AtFront (start6 c) (withScenes (
     (valueBack 2 (c .before .before .before .before .put-head3 .last .0) (c .write-scenes .last .0))
 scenes-value c =
     let a = start6 c .args in
-    front-and-lent (scenes-head (c .before .before .before .before)) (sceneBytes (a .states) (now (a .earth)))
-    (length-scene-bytes (a .states) (now (a .earth))) (c .write-scenes .ensures .1)
+    front-and-lent (scenes-head (c .before .before .before .before)) (sceneBytes (deliver (start6 c)) (a .states) (now (a .earth)))
+    (length-scene-bytes (deliver (start6 c)) (a .states) (now (a .earth))) (c .write-scenes .ensures .1)
 
 summaries-head : (c : tie.After-put-head4) → AtFront (start7 c) (withScenes (start7 c) ++ headOf 3) (valueStart productLayout 3) (c .put-head4 .last .0)
 summaries-head c = front-and-put (scenes-value (c .before .before .before .before)) (headOf 3) refl (c .put-head4 .ensures)
@@ -117,15 +121,15 @@ summaries-value : (c : tie.After-write-summaries) → AtFront (start8 c) (withSu
     (valueBack 3 (c .before .before .before .before .put-head4 .last .0) (c .write-summaries .last .0))
 summaries-value c =
     let a = start8 c .args in
-    let all = summaries (a .states) (now (a .earth)) in
+    let all = summaries (deliver (start8 c)) (a .states) (now (a .earth)) in
     let same = c .before .before .before .before .before .before .before .before .write-scenes .ensures .0 in
     front-and-lent (summaries-head (c .before .before .before .before)) (summariesBytes all) (length-summaries-bytes all)
     (c .write-summaries .ensures ∙ ap summariesBytes same)
 
-each-is-plain : (c : tie.After-write-scenes) → (k : ℕ) → k < channels → Plain (getD (c .write-scenes .result) k (summaryOf noChannel []))
+each-is-plain : (c : tie.After-write-scenes) → (k : ℕ) → k < channels → Plain (getD (c .write-scenes .result) k noneDelivered)
 each-is-plain c k below =
-    subst (λ (all : List Summary). Plain (getD all k (summaryOf noChannel []))) (sym (c .write-scenes .ensures .0))
-    (plain-summaries (start6 c .args .states) (now (start6 c .args .earth)) k below)
+    subst (λ (all : List Summary). Plain (getD all k noneDelivered)) (sym (c .write-scenes .ensures .0))
+    (plain-summaries (deliver (start6 c)) (start6 c .args .states) (now (start6 c .args .earth)) k below)
 
 -- ---- the needs
 
@@ -136,7 +140,7 @@ array-read-put-head-2 : tie.Need-array-read-put-head-2
 array-read-put-head-2 c = lit< tt
 
 put-head-requires : tie.Need-put-head-requires
-put-head-requires c κs = let s = c .before .before .before in room s (front-none (now (s .args .buffer))) (lit≤ tt) (lit≤ tt)
+put-head-requires c κs = let s = c .before .before .before .before in room s (front-none (now (s .args .buffer))) (lit≤ tt) (lit≤ tt)
 
 put-u32-requires : tie.Need-put-u32-requires
 put-u32-requires c κs = let w = c .before .before .before in room (start1 w) (number-head w) (lit≤ tt) (lit≤ tt)
@@ -187,7 +191,7 @@ write-scenes-requires : tie.Need-write-scenes-requires
 write-scenes-requires c κs =
     let w = c .before .before .before in
     let s = start5 w in
-    (value-room s 2 (scenes-head w) (lit≤ tt) (lit≤ tt), s .pre .1, s .pre .2)
+    ((value-room s 2 (scenes-head w) (lit≤ tt) (lit≤ tt), s .pre .0 .1, s .pre .0 .2), s .pre .1)
 
 array-read-put-head-7 : tie.Need-array-read-put-head-7
 array-read-put-head-7 c = lit< tt
@@ -219,7 +223,7 @@ total-count-requires : tie.Need-total-count-requires
 total-count-requires c κs = tt
 
 same-length : tie.Need-same-length
-same-length c = let w = c .before .before .before in length-fronted (summaries-value w) (start8 w .pre .0)
+same-length c = let w = c .before .before .before in length-fronted (summaries-value w) (start8 w .pre .0 .0)
 
 regroup : (a b c d e f g h : List ℕ) → a ++ b ++ c ++ d ++ e ++ f ++ g ++ h ≡ (a ++ b) ++ ((c ++ d) ++ ((e ++ f) ++ (g ++ h)))
 regroup a b c d e f g h = simp append-assoc
@@ -232,11 +236,11 @@ returns c =
     let earth = now (a .earth) in
     let same = w .before .before .before .before .before .before .before .before .write-scenes .ensures .0 in (
       c .total-count .ensures
-          ∙ ap (λ (s : List Summary). sum (λ k. getD s k (summaryOf noChannel []) .count) channels) same
-          ∙ counts-of-summaries (a .states) earth,
+          ∙ ap (λ (s : List Summary). sum (λ k. getD s k noneDelivered .count) channels) same
+          ∙ counts-of-summaries (deliver (start8 w)) (a .states) earth,
       summaries-value w .same
           ∙ ap (λ (l : List ℕ). l ++ drop productSize (now (a .buffer)))
-          (regroup (headOf 0) (u32Bytes (a .number)) (headOf 1) (flagBytes (a .states)) (headOf 2) (sceneBytes (a .states) earth) (headOf 3) _),
+          (regroup (headOf 0) (u32Bytes (a .number)) (headOf 1) (flagBytes (a .states)) (headOf 2) (sceneBytes (deliver (start8 w)) (a .states) earth) (headOf 3) _),
     )
 
 pub write-product-spec : {M : Type 1} → statement M

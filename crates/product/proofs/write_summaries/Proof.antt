@@ -2,15 +2,14 @@
 use Prim.Native.Nat.{ℕ, _-_, _*_, _≤_}
 use native.Mathlib.Omega.{arith}
 use mathlib.Core.Path.{_≡_, sym, ap, subst, _∙_}
-use mathlib.Core.List.{List, []}
+use mathlib.Core.List.{List}
 use lib.ListN.{length, getD}
 use denote.Ref.{now}
 use Rattle.lists.specs.Build.{filled}
 use Rattle.lists.proofs.Cells.{filled-none, filled-by-put, filled-to-end}
 use Rattle.instrument.specs.Instrument.{channels}
 use Rattle.product.specs.declared.Summary.{Summary}
-use Rattle.product.specs.Scenes.{noChannel}
-use Rattle.product.specs.Summary.{summaryOf}
+use Rattle.product.specs.Summary.{noneDelivered}
 use Rattle.product.specs.Product.{summarySize, summaryBytes, summariesBytes}
 use Rattle.product.specs.Steps.{Plain}
 use Rattle.product.proofs.PastSummaries.{summary-of}
@@ -20,7 +19,7 @@ use Rattle.product.proofs.write_summaries.Statement.{statement}
 use Rattle.product.proofs.write_summaries.Tie as tie
 
 abbrev bytesAt : List Summary → ℕ → List ℕ
-bytesAt all c = summaryBytes (getD all c (summaryOf noChannel []))
+bytesAt all c = summaryBytes (getD all c noneDelivered)
 
 abbrev Inv-loop : tie.InvT-loop
 Inv-loop out₀ all c₀ out c = (c ≤ channels) × (length out ≡ summarySize * channels) × (out ≡ filled (bytesAt all) summarySize c out₀)

@@ -1,26 +1,30 @@
--- `scene::scene_of` meets its contract. N and T are read back as themselves, so the four tests are those of the definition, and each
--- branch gives the scene of its outcome; the guard makes T a natural number below 2^24. Assumes nothing.
-use mathlib.Core.Path.{_≡_, sym, ap}
+-- `scene::scene_of` meets its contract. N and T are read back as themselves, so both tests are those of the definition, and each branch
+-- gives the scene of its outcome; T is in its range, so that the guard cannot fail and what is delivered is a natural number below 2^24.
+-- Assumes nothing.
+use mathlib.Core.Path.{_≡_, sym, ap, _∙_}
 use mathlib.Core.Bool.{Bool, true, false}
 use Prim.Native.Nat.{ℕ, _≤_}
 use native.Mathlib.Nat.{lt-of-le-of-lt}
 use native.Mathlib.Omega.{arith}
 use lib.Dec.{lit<}
-use lib.IntN.{pos, _-ℤ_, _*ℤ_}
-use lib.Signed.{ltZ, yes-nonNeg}
+use lib.IntN.{ℤ, pos, natAbs, _-ℤ_, _*ℤ_}
+use lib.Signed.{_≤ℤ_, ltZ, yes-nonNeg}
 use mir.Syntax.{w32, w64}
 use mir.Val.{SFits, toZ, ofZ}
 use borrow.Author.Needs.{needs}
 use Rattle.integers.specs.Rounding.{floor}
-use Rattle.integers.proofs.Naturals.{not-negative-is}
-use Rattle.integers.proofs.Order.{ltZ-false}
+use Rattle.integers.proofs.Naturals.{not-negative-is, natural-at-most, at-most-natural}
+use Rattle.integers.proofs.Order.{ltZ-false, at-most-trans, at-most-fails}
 use Rattle.integers.proofs.Machine.{bounded-fits, reads-back, natural-reads-back, floor-fits}
 use Rattle.scene.proofs.Bracket.{top-test}
 use Rattle.scene.specs.declared.Constants.{Constants}
 use Rattle.scene.specs.Scene.{numerator}
 use Rattle.scene.specs.Ranges.{ConstantsRange}
-use Rattle.scene.proofs.Ranges.{slope-bounded, base-bounded, slope-count-bounded, numerator-bounded, five-d-bounded}
-use Rattle.scene.proofs.Delivered.{temperatureOf, scene-negative, scene-above, scene-guard-low, scene-guard-high, scene-kelvin, WithinGuard, within-guard}
+use Rattle.scene.proofs.Ranges.{SceneRange, scene-range, slope-bounded, base-bounded, slope-count-bounded, numerator-bounded, five-d-bounded}
+use Rattle.scene.proofs.BiasRange.{temperature-low, temperature-high, biased-low, biased-high}
+use Rattle.scene.specs.Temperature.{biased}
+use Rattle.scene.specs.Steps.{c0Of, eOf}
+use Rattle.scene.proofs.Delivered.{temperatureOf, scene-negative, scene-above, scene-kelvin, WithinGuard, within-guard}
 use Rattle.scene.proofs.scene_of.Statement.{statement}
 use Rattle.scene.proofs.scene_of.Tie as tie
 
@@ -40,6 +44,10 @@ module _ {k : Constants} {count : ℕ} (h : ConstantsRange k) (c : count ≤ 655
   top-fits : SFits w64 (floor (pos 5 *ℤ k .d) (pos 4))
   top-fits = floor-fits (pos 4) (bounded-fits (five-d-bounded h) (lit< tt))
 
+-- what is delivered, by the two numbers
+abbrev deliver : tie.Start → ℤ → ℤ
+deliver s = biased (c0Of (s .args .offset)) (eOf (s .args .factor))
+
 count-high : (s : tie.Start) → s .args .count ≤ 65535
 count-high s = omega arith
 
@@ -55,7 +63,7 @@ sub-n c = let s = c .before .before .before .before in rw (n-is (s .pre .0) (cou
 returns : tie.Need-returns
 returns c =
     let s = c .before .before .before .before .before in
-    scene-negative (s .args .k) (s .args .count) (rw (n-is (s .pre .0) (count-high s), reads-back (n-fits (s .pre .0) (count-high s))) at (c .if1 .taken))
+    scene-negative (deliver s) (s .args .k) (s .args .count) (rw (n-is (s .pre .0) (count-high s), reads-back (n-fits (s .pre .0) (count-high s))) at (c .if1 .taken))
 
 n-not-negative : (c : tie.Else1) → ltZ (numerator (c .before .before .before .before .before .args .k) (c .before .before .before .before .before .args .count)) (pos 0) ≡ false
 n-not-negative c =
@@ -75,7 +83,7 @@ n-test s b e =
 returns-2 : tie.Need-returns-2
 returns-2 c =
     let s = c .before .before .before .before .before .before .before .before in
-    scene-above (s .args .k) (s .args .count) (n-not-negative (c .before .before .before)) (n-test s true (c .if2 .taken))
+    scene-above (deliver s) (s .args .k) (s .args .count) (n-not-negative (c .before .before .before)) (n-test s true (c .if2 .taken))
 
 module _ (c : tie.Else2) where
   abbrev start : tie.Start
@@ -99,49 +107,52 @@ t-is c =
     let m = count-high (start (c .before)) in
     rw (n-is h m, reads-back (n-fits h m)) at (c .units .ensures)
 
-t-reads-back : (c : tie.After-units) → toZ w32 (ofZ w32 (c .units .result)) ≡ c .units .result
+t-reads-back : (c : tie.After-units) → toZ w64 (ofZ w64 (c .units .result)) ≡ c .units .result
 t-reads-back c = reads-back (record { sfits = c .units .ok })
+
+module _ (c : tie.After-units) where
+  abbrev begin : tie.Start
+  begin = start (c .before)
+
+  abbrev t : ℤ
+  t = temperatureOf (begin .args .k) (begin .args .count)
+
+  in-range : SceneRange (begin .args .k .tc) (begin .args .k .rise) (begin .args .k .tnl) (begin .args .k .d) (numerator (begin .args .k) (begin .args .count))
+  in-range = scene-range (begin .pre .0) (ltZ-false (n-low (c .before))) (ltZ-false (n-high (c .before)))
+
+  -- the guard cannot fail
+  t-above-guard : pos 1 ≤ℤ t
+  t-above-guard = at-most-trans (natural-at-most (omega arith)) (temperature-low in-range)
+
+  t-below-guard : t ≤ℤ pos 16777215
+  t-below-guard = at-most-trans (temperature-high in-range) (natural-at-most (omega arith))
+
+biased-units-requires : tie.Need-biased-units-requires
+biased-units-requires c κs = rw (t-reads-back c, t-is c) (temperature-low (in-range c), temperature-high (in-range c), begin c .pre .2)
+
+module _ (c : tie.After-biased-units) where
+  abbrev delivered : ℤ
+  delivered = deliver (begin (c .before)) (t (c .before))
+
+  delivered-is : toZ w32 (ofZ w32 (c .biased-units .result)) ≡ delivered
+  delivered-is = reads-back (record { sfits = c .biased-units .ok }) ∙ rw (t-reads-back (c .before), t-is (c .before)) at (c .biased-units .ensures)
+
+  delivered-from : pos 1 ≤ℤ delivered
+  delivered-from = let u = c .before in biased-low (begin u .pre .2 .c0) (begin u .pre .2 .e) (temperature-low (in-range u)) (temperature-high (in-range u))
+
+  delivered-to : delivered ≤ℤ pos 16777215
+  delivered-to = let u = c .before in biased-high (begin u .pre .2 .c0) (begin u .pre .2 .e) (temperature-low (in-range u)) (temperature-high (in-range u))
+
+kelvin-of-requires : tie.Need-kelvin-of-requires
+kelvin-of-requires c κs = rw (delivered-is c) (delivered-from c, delivered-to c)
 
 returns-3 : tie.Need-returns-3
 returns-3 c =
-    let u = c .before in
-    let s = start (u .before) in
-    scene-guard-low (s .args .k) (s .args .count) (n-low (u .before)) (n-high (u .before)) (rw (t-reads-back u, t-is u) at (c .if3 .taken))
-
-t-low : (c : tie.Else3) → ltZ (temperatureOf (start (c .before .before) .args .k) (start (c .before .before) .args .count)) (pos 1) ≡ false
-t-low c = let u = c .before in rw (t-reads-back u, t-is u) at (c .if3 .left)
-
-returns-4 : tie.Need-returns-4
-returns-4 c =
-    let u = c .before .before in
-    let s = start (u .before) in
-    scene-guard-high (s .args .k) (s .args .count) (n-low (u .before)) (n-high (u .before)) (t-low (c .before))
-    (rw (t-reads-back u, t-is u) at (c .if4 .taken))
-
-module _ (c : tie.Else4) where
-  t-high : ltZ (pos 16777215) (temperatureOf (start (c .before .before .before) .args .k) (start (c .before .before .before) .args .count)) ≡ false
-  t-high = let u = c .before .before in rw (t-reads-back u, t-is u) at (c .if4 .left)
-
-  t-within : WithinGuard (temperatureOf (start (c .before .before .before) .args .k) (start (c .before .before .before) .args .count))
-  t-within = within-guard (ltZ-false (t-low (c .before))) (ltZ-false t-high)
-
-cast-kelvin-of : tie.Need-cast-kelvin-of
-cast-kelvin-of c =
-    let u = c .before .before in
-    rw (t-reads-back u, t-is u) (yes-nonNeg (not-negative-is _ (sym (t-within c .same))), record { fits = lt-of-le-of-lt (t-within c .high) (lit< tt) })
-
-kelvin-of-requires : tie.Need-kelvin-of-requires
-kelvin-of-requires c κs =
-    let u = c .before .before in
-    rw (t-reads-back u, t-is u) (t-within c .low, t-within c .high)
-
-returns-5 : tie.Need-returns-5
-returns-5 c =
-    let f = c .before in
-    let u = f .before .before in
-    let s = start (u .before) in
-    rw (c .kelvin-of .ensures, t-reads-back u, t-is u)
-    (scene-kelvin (s .args .k) (s .args .count) (n-low (u .before)) (n-high (u .before)) (t-low (f .before)) (t-high f))
+    let d = c .before in
+    let u = d .before in
+    let s = begin u in
+    rw (c .kelvin-of .ensures, delivered-is d)
+    (scene-kelvin (deliver s) (s .args .k) (s .args .count) (n-low (u .before)) (n-high (u .before)) (at-most-fails (t-above-guard u)) (at-most-fails (t-below-guard u)))
 
 pub scene-of-spec : {M : Type 1} → statement M
 scene-of-spec =
@@ -153,8 +164,6 @@ scene-of-spec =
     returns
     returns-2
     units-requires
-    returns-3
-    returns-4
-    cast-kelvin-of
+    biased-units-requires
     kelvin-of-requires
-    returns-5)
+    returns-3)

@@ -1,9 +1,8 @@
--- `scene::units_of` meets its contract: both sums are in the range that Ranges has for them, so they fit an i64, and T an i32. Assumes
--- nothing.
+-- `scene::units_of` meets its contract: both sums are in the range that Ranges has for them, so they fit an i64. Assumes nothing.
 use mathlib.Core.Path.{_≡_, _∙_}
 use lib.Dec.{lit<}
 use lib.IntN.{ℤ, pos, _+ℤ_}
-use mir.Syntax.{w32, w64}
+use mir.Syntax.{w64}
 use mir.Val.{SFits, toZ, ofZ}
 use Rattle.integers.specs.Bounds.{Bounded}
 use Rattle.integers.proofs.Machine.{bounded-fits, reads-back, result-reads-back}
@@ -18,11 +17,8 @@ module _ {k : Constants} {x linear : ℤ} (h : ConstantsRange k × Bounded x (po
   sum-fits : SFits w64 (k .tc +ℤ linear)
   sum-fits = bounded-fits (linear-sum-bounded (h .0) (h .1) (h .2)) (lit< tt)
 
-  units-fit-64 : SFits w64 (k .tc +ℤ linear +ℤ bendOf x (k .tnl))
-  units-fit-64 = bounded-fits (units-bounded (h .0) (h .1) (h .2)) (lit< tt)
-
-  units-fit-32 : SFits w32 (k .tc +ℤ linear +ℤ bendOf x (k .tnl))
-  units-fit-32 = bounded-fits (units-bounded (h .0) (h .1) (h .2)) (lit< tt)
+  units-fit : SFits w64 (k .tc +ℤ linear +ℤ bendOf x (k .tnl))
+  units-fit = bounded-fits (units-bounded (h .0) (h .1) (h .2)) (lit< tt)
 
 add-result : tie.Need-add-result
 add-result c = let s = c .before .before in rw (reads-back (tc-fits (s .pre .0)), reads-back (s .fits .linear)) (sum-fits (s .pre))
@@ -42,17 +38,12 @@ module _ (c : tie.After-bend) where
 add-result-2 : tie.Need-add-result-2
 add-result-2 c =
     let s = start c in
-    rw (reads-back (tc-fits (s .pre .0)), reads-back (s .fits .linear), reads-back (sum-fits (s .pre)), bend-reads-back c) (units-fit-64 (s .pre))
-
-cast-result : tie.Need-cast-result
-cast-result c =
-    let s = start c in
-    rw (reads-back (tc-fits (s .pre .0)), reads-back (s .fits .linear), reads-back (sum-fits (s .pre)), bend-reads-back c, reads-back (units-fit-64 (s .pre))) (units-fit-32 (s .pre))
+    rw (reads-back (tc-fits (s .pre .0)), reads-back (s .fits .linear), reads-back (sum-fits (s .pre)), bend-reads-back c) (units-fit (s .pre))
 
 returns : tie.Need-returns
 returns c =
     let s = start c in
-    rw (reads-back (tc-fits (s .pre .0)), reads-back (s .fits .linear), reads-back (sum-fits (s .pre)), bend-reads-back c, reads-back (units-fit-64 (s .pre)), reads-back (units-fit-32 (s .pre)))
+    rw (reads-back (tc-fits (s .pre .0)), reads-back (s .fits .linear), reads-back (sum-fits (s .pre)), bend-reads-back c, reads-back (units-fit (s .pre)))
 
 pub units-of-spec : {M : Type 1} → statement M
-units-of-spec = tie.close (tie.spec add-result bend-requires add-result-2 cast-result returns)
+units-of-spec = tie.close (tie.spec add-result bend-requires add-result-2 returns)

@@ -72,7 +72,7 @@ returns c =
     let bytes = last .before .before .before in
     let start = bytes .before .before .before .before .before in
     let a = start .args in
-    window-put (now (a .out)) (windowOf start) (start .pre .0) (record { warm = start .pre .1; cold = start .pre .2; kelvin = start .pre .3 })
+    window-put (windowOf start) (record { warm = start .pre .1; cold = start .pre .2; kelvin = start .pre .3 }) (now (a .out)) (start .pre .0)
     (last .put-field .ensures ∙ ap (λ (l : List ℕ). put (now (a .out)) windowStart (fieldBytes (field 0x32 (length l)) l)) (bytes .last-bytes .ensures))
     (warm .put-number-field .ensures)
     (cold .put-number-field2 .ensures)

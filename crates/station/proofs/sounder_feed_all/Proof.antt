@@ -1,34 +1,60 @@
--- `station::sounder_feed_all` meets its contract: an accepted table's fresh calibrator is fed the list, and a refused table writes
--- nothing. Assumes nothing.
+-- `station::sounder_feed_all` meets its contract: the fresh calibrator of an accepted table and an accepted bias file is fed the list, and a
+-- refusal of either writes nothing. Assumes nothing.
 use Prim.Native.Nat.{ℕ}
-use mathlib.Core.Path.{_≡_, refl, sym, ap, _∙_}
+use mathlib.Core.Path.{_≡_, refl, sym, ap₂, subst, _∙_}
 use mathlib.Core.List.{List}
 use lib.ListN.{length}
 use Rattle.lists.specs.Build.{tabulate}
 use Rattle.lists.specs.Tests.{Verdict, passes, fails, numberOf}
-use Rattle.table.specs.declared.Table.{Table}
 use Rattle.table.specs.Opening.{opening}
-use Rattle.table.proofs.OpeningLaws.{table-when-passed, accepted-when-passed}
+use Rattle.table.proofs.OpenedLaws.{number-is, passed-at-zero}
+use Rattle.bias.specs.Opening.{biasOpening, bothOpening}
+use Rattle.bias.proofs.OpeningLaws.{both-by-table, both-by-bias, both-pass}
 use Rattle.calibrator.specs.declared.Calibrator.{Calibrator}
 use Rattle.calibrator.specs.Feeding.{freshOf}
 use Rattle.feeds.specs.FeedList.{answerAt, buffersAt}
-use Rattle.station.specs.Calls.{answersBy, buffersBy}
-use Rattle.table.proofs.OpenedLaws.{number-is, passed-at-zero}
+use Rattle.live.proofs.HandedLaws.{handed-table, handed-table-accepted, handed-bias, handed-bias-accepted}
+use Rattle.station.specs.Calls.{freshUnder, answersBy, buffersBy}
 use borrow.Author.Needs.{needs}
 use Rattle.station.proofs.sounder_feed_all.Statement.{statement}
 use Rattle.station.proofs.sounder_feed_all.Tie as tie
 
--- ---- what the list leaves, by the verdict on the table
-module _ (table records recordLengths buffers bufferLengths answers : List ℕ) where
-  answers-when : {verdict : Verdict} → opening table ≡ verdict → {out : List ℕ} → out ≡ answersBy verdict table records recordLengths buffers bufferLengths answers → out ≡ answersBy (opening table) table records recordLengths buffers bufferLengths answers
-  answers-when e h = h ∙ sym (ap (λ (verdict : Verdict). answersBy verdict table records recordLengths buffers bufferLengths answers) e)
+-- ---- what the call leaves, by the verdict on the table and the bias file
+module _ (table bias records recordLengths buffers bufferLengths answers : List ℕ) where
+  abbrev LeftBy : Verdict → ℕ → (answered written : List ℕ) → Type 0
+  LeftBy verdict n answered written =
+      (n ≡ numberOf verdict) × (answered ≡ answersBy verdict table bias records recordLengths buffers bufferLengths answers)
+      × (written ≡ buffersBy verdict table bias records recordLengths buffers bufferLengths (length answers))
 
-  buffers-when : {verdict : Verdict} → opening table ≡ verdict → {out : List ℕ} → out ≡ buffersBy verdict table records recordLengths buffers bufferLengths (length answers) → out ≡ buffersBy (opening table) table records recordLengths buffers bufferLengths (length answers)
-  buffers-when e h = h ∙ sym (ap (λ (verdict : Verdict). buffersBy verdict table records recordLengths buffers bufferLengths (length answers)) e)
+  refused-writes-nothing : {n : ℕ} → n ≡ numberOf (bothOpening table bias) → (n ≡ 0 → ⊥) → LeftBy (bothOpening table bias) n answers buffers
+  refused-writes-nothing = by-verdict (bothOpening table bias)
+    where
+      by-verdict : (verdict : Verdict) → {n : ℕ} → n ≡ numberOf verdict → (n ≡ 0 → ⊥) → LeftBy verdict n answers buffers
+      by-verdict passes is some = absurd (some is)
+      by-verdict (fails k) is some = (is, refl, refl)
 
-  refused-writes-nothing : (verdict : Verdict) → (numberOf verdict ≡ 0 → ⊥) → (answers ≡ answersBy verdict table records recordLengths buffers bufferLengths answers) × (buffers ≡ buffersBy verdict table records recordLengths buffers bufferLengths (length answers))
-  refused-writes-nothing passes h = absurd (h refl)
-  refused-writes-nothing (fails n) h = (refl, refl)
+  passed-is-fed : bothOpening table bias ≡ passes → {first : Calibrator} → first ≡ freshUnder table bias → {answered written : List ℕ}
+      → answered ≡ tabulate (answerAt first records recordLengths buffers bufferLengths) (length answers)
+      → written ≡ buffersAt first records recordLengths buffers bufferLengths (length answers)
+      → LeftBy (bothOpening table bias) 0 answered written
+  passed-is-fed passed fresh {answered} {written} answers-are buffers-are =
+      subst (λ (verdict : Verdict). LeftBy verdict 0 answered written) (sym passed) (refl, rw fresh at answers-are, rw fresh at buffers-are)
+
+-- ---- neither was refused
+abbrev startOf : tie.Else1 → tie.Start
+startOf x = x .before .before .before .before .before .before .before .before .before .before
+
+table-passed : (x : tie.Else1) → opening (startOf x .args .table .now) ≡ passes
+table-passed x =
+    let number = x .before in
+    let opened = number .before in
+    passed-at-zero (opened .«open» .result .answer) (opened .«open» .ensures .0) (number .refusal-number .ensures) (x .if1 .left)
+
+bias-passed : (x : tie.Else2) → biasOpening (startOf (x .before .before .before) .args .bias .now) ≡ passes
+bias-passed x =
+    let number = x .before in
+    let opened = number .before in
+    passed-at-zero (opened .open2 .result .answer) (opened .open2 .ensures .0) (number .refusal-number2 .ensures) (x .if2 .left)
 
 open-requires : tie.Need-open-requires
 open-requires c κs = search needs
@@ -38,20 +64,40 @@ refusal-number-requires c κs = search needs
 
 returns : tie.Need-returns
 returns c =
-    let opened = c .before .before .«open» in
-    let number = number-is _ (opened .result .answer) (opened .ensures .0) (c .before .refusal-number .ensures) in
-    let a = c .before .before .before .before .before .before .before .before .before .args in
-    let nothing = refused-writes-nothing (a .table .now) (a .records .now) (a .record-lengths .now) (a .buffers .now) (a .buffer-lengths .now) (a .answers .now) (opening (a .table .now)) (λ zero. c .if1 .taken (number ∙ zero)) in
-    (number, nothing .0, nothing .1)
+    let number = c .before in
+    let opened = number .before in
+    let is = number-is (opened .«open» .result .answer) (opened .«open» .ensures .0) (number .refusal-number .ensures) in
+    refused-writes-nothing _ _ _ _ _ _ _ (both-by-table _ _ is (c .if1 .taken)) (c .if1 .taken)
+
+open-requires-2 : tie.Need-open-requires-2
+open-requires-2 c κs = search needs
+
+refusal-number-requires-2 : tie.Need-refusal-number-requires-2
+refusal-number-requires-2 c κs = search needs
+
+returns-2 : tie.Need-returns-2
+returns-2 c =
+    let number = c .before in
+    let opened = number .before in
+    let first = opened .before in
+    let is = number-is (opened .open2 .result .answer) (opened .open2 .ensures .0) (number .refusal-number2 .ensures) in
+    refused-writes-nothing _ _ _ _ _ _ _ (both-by-bias _ _ (table-passed first) is) (c .if2 .taken)
 
 table-requires : tie.Need-table-requires
 table-requires c κs = search needs
 
+bias-requires : tie.Need-bias-requires
+bias-requires c κs = search needs
+
 fresh-requires : tie.Need-fresh-requires
 fresh-requires c κs =
-    let opened = c .before .before .before .«open» in
-    accepted-when-passed _ (ap (λ (t : Table). t .bytes) (c .table .ensures) ∙ opened .ensures .1)
-    (passed-at-zero _ (opened .result .answer) (opened .ensures .0) (c .before .before .refusal-number .ensures) (c .before .if1 .left))
+    let second = c .before .before in
+    let pairs = second .before .before in
+    let first = pairs .before in
+    let opened = first .before .before in (
+      handed-table-accepted _ (c .before .table .ensures) (opened .«open» .ensures .1) (table-passed first),
+      handed-bias-accepted _ (c .bias .ensures) (pairs .open2 .ensures .1) (bias-passed second) (pairs .open2 .ensures .2),
+    )
 
 feed-list-requires : tie.Need-feed-list-requires
 feed-list-requires c κs = search needs
@@ -62,21 +108,23 @@ same-length c = search needs
 same-length-2 : tie.Need-same-length-2
 same-length-2 c = search needs
 
-returns-2 : tie.Need-returns-2
-returns-2 c =
-    let a = c .before .before .before .before .before .before .before .before .before .before .before .before .before .before .before .before .before .before .args in
-    let opened = c .before .before .before .before .before .before .before .before .before .before .before .«open» in
-    let number = c .before .before .before .before .before .before .before .before .before .before .refusal-number .ensures in
-    let zero = c .before .before .before .before .before .before .before .before .before .if1 .left in
-    let passed = passed-at-zero _ (opened .result .answer) (opened .ensures .0) number zero in
-    let handed = c .before .before .before .before .before .before .before .before .table .ensures in
-    let bytes = table-when-passed _ (opened .ensures .1) passed in
-    let first = c .before .before .before .before .before .before .before .fresh .ensures .0 ∙ ap freshOf (handed ∙ ap (λ (b : List ℕ). record { bytes = b }) bytes) in
-    let f = c .before .before .before .before .feed-list .ensures in (
-      sym (ap numberOf passed),
-      answers-when _ _ _ _ _ _ passed (f .0 ∙ ap (λ (x : Calibrator). tabulate (answerAt x (a .records .now) (a .record-lengths .now) (a .buffers .now) (a .buffer-lengths .now)) (length (a .answers .now))) first),
-      buffers-when _ _ _ _ _ (a .answers .now) passed (f .1 ∙ ap (λ (x : Calibrator). buffersAt x (a .records .now) (a .record-lengths .now) (a .buffers .now) (a .buffer-lengths .now) (length (a .answers .now))) first),
-    )
+returns-3 : tie.Need-returns-3
+returns-3 c =
+    let fed = c .before .before .before .before in
+    let made = fed .before .before .before in
+    let bias = made .before in
+    let table = bias .before in
+    let second = table .before in
+    let pairs = second .before .before in
+    let first = pairs .before in
+    let opened = first .before .before in
+    let passed = table-passed first in
+    let also = bias-passed second in
+    passed-is-fed _ _ _ _ _ _ _ (both-pass _ _ passed also)
+    (made .fresh .ensures .0
+    ∙ ap₂ freshOf (handed-table _ (table .table .ensures) (opened .«open» .ensures .1) passed) (handed-bias _ (bias .bias .ensures) (pairs .open2 .ensures .1) also))
+    (fed .feed-list .ensures .0)
+    (fed .feed-list .ensures .1)
 
 pub sounder-feed-all-spec : {M : Type 1} → statement M
 sounder-feed-all-spec =
@@ -85,9 +133,13 @@ sounder-feed-all-spec =
     open-requires
     refusal-number-requires
     returns
+    open-requires-2
+    refusal-number-requires-2
+    returns-2
     table-requires
+    bias-requires
     fresh-requires
     feed-list-requires
     same-length
     same-length-2
-    returns-2)
+    returns-3)

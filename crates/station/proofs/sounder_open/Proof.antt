@@ -11,7 +11,7 @@ refusal-number-requires : tie.Need-refusal-number-requires
 refusal-number-requires c κs = search needs
 
 returns : tie.Need-returns
-returns c = number-is _ (c .before .«open» .result .answer) (c .before .«open» .ensures .0) (c .refusal-number .ensures)
+returns c = number-is (c .before .«open» .result .answer) (c .before .«open» .ensures .0) (c .refusal-number .ensures)
 
 pub sounder-open-spec : {M : Type 1} → statement M
 sounder-open-spec = tie.close (tie.spec open-requires refusal-number-requires returns)

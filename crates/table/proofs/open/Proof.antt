@@ -3,22 +3,22 @@ use Prim.Native.Nat.{ℕ}
 use native.Mathlib.Omega.{arith}
 use mathlib.Core.Path.{_≡_, refl, ap, _∙_}
 use mathlib.Core.List.{List}
+use mathlib.Core.Bool.{Bool}
 use denote.Ref.{now}
 use borrow.Author.Needs.{needs}
-use Rattle.lists.specs.Tests.{Verdict}
 use Rattle.lists.proofs.Put.{copied-whole}
 use Rattle.fields.specs.Fields.{layoutIsRight, layoutSize}
-use Rattle.table.specs.Settings.{tableLayout}
-use Rattle.table.specs.Opening.{ages, verdictOf, opening, tableBy}
+use Rattle.table.specs.Settings.{tableLayout, settingsOf}
+use Rattle.table.specs.Ranges.{valuesInside}
+use Rattle.table.specs.Opening.{ages, tableSize, verdictOf, opening}
 use Rattle.table.proofs.Answers.{test-passed, test-failed}
-use Rattle.table.proofs.OpeningLaws.{lent-layout, opening-length-wrong, opening-field-wrong, opening-value-outside, opening-passes}
+use Rattle.table.proofs.OpeningLaws.{lent-layout, opening-length-wrong, opening-field-wrong, opening-value-outside, opening-passes, opened-by}
 use Rattle.table.proofs.open.Statement.{statement}
 use Rattle.table.proofs.open.Tie as tie
 
--- what `open` gives, where the verdict on the bytes is known
-opened-by : (bytes : List ℕ) {verdict answered : Verdict} {table : List ℕ} → opening bytes ≡ verdict → answered ≡ verdict → table ≡ tableBy verdict bytes
-    → (answered ≡ opening bytes) × (table ≡ tableBy (opening bytes) bytes)
-opened-by bytes known answers given = rw known (answers, given)
+-- whether the values of the bytes are in their ranges
+abbrev inside : List ℕ → Bool
+inside bytes = valuesInside (settingsOf ages bytes)
 
 layout-answers : (c : tie.After-layout-is-right)
     → c .layout-is-right .result ≡ layoutIsRight (now (c .before .before .before .before .before .args .bytes)) 0 (tableLayout ages)
@@ -28,9 +28,10 @@ refused-requires : tie.Need-refused-requires
 refused-requires c κs = search needs
 
 returns : tie.Need-returns
+unfolding opening
 returns c =
     let bytes = now (c .before .before .before .args .bytes) in
-    opened-by bytes (opening-length-wrong bytes (c .before .if1 .taken)) (ap verdictOf (c .refused .ensures .0)) (c .refused .ensures .1)
+    opened-by tableSize bytes (opening-length-wrong (tableLayout ages) (inside bytes) bytes (c .before .if1 .taken)) (ap verdictOf (c .refused .ensures .0)) (c .refused .ensures .1)
 
 slice-aggregate-layout-is-right : tie.Need-slice-aggregate-layout-is-right
 slice-aggregate-layout-is-right c = refl
@@ -45,12 +46,14 @@ refused-requires-2 : tie.Need-refused-requires-2
 refused-requires-2 c κs = search needs
 
 returns-2 : tie.Need-returns-2
+unfolding opening
 returns-2 c =
     let l = c .before .before in
     let bytes = now (l .before .before .before .before .before .args .bytes) in
     opened-by
+    tableSize
     bytes
-    (opening-field-wrong bytes (l .before .before .before .if1 .left) (test-failed (layout-answers l) (c .before .if2 .taken)))
+    (opening-field-wrong (tableLayout ages) (inside bytes) bytes (l .before .before .before .if1 .left) (test-failed (layout-answers l) (c .before .if2 .taken)))
     (ap verdictOf (c .refused2 .ensures .0))
     (c .refused2 .ensures .1)
 
@@ -61,14 +64,18 @@ refused-requires-3 : tie.Need-refused-requires-3
 refused-requires-3 c κs = search needs
 
 returns-3 : tie.Need-returns-3
+unfolding opening
 returns-3 c =
     let v = c .before .before in
     let second = v .before in
     let l = second .before in
     let bytes = now (l .before .before .before .before .before .args .bytes) in
     opened-by
+    tableSize
     bytes
     (opening-value-outside
+    (tableLayout ages)
+    (inside bytes)
     bytes
     (l .before .before .before .if1 .left)
     (test-passed (layout-answers l) (second .if2 .left))
@@ -83,6 +90,7 @@ copy-requires : tie.Need-copy-requires
 copy-requires c κs = search needs
 
 returns-4 : tie.Need-returns-4
+unfolding opening
 returns-4 c =
     let third = c .before .before .before in
     let v = third .before in
@@ -91,8 +99,11 @@ returns-4 c =
     let long = l .before .before .before .if1 .left in
     let bytes = now (l .before .before .before .before .before .args .bytes) in
     opened-by
+    tableSize
     bytes
     (opening-passes
+    (tableLayout ages)
+    (inside bytes)
     bytes
     long
     (test-passed (layout-answers l) (second .if2 .left))

@@ -1,0 +1,5 @@
+pub mod Parts
+pub mod OpeningLaws
+pub mod RangeLaws
+pub mod Zeros
+pub mod PairLaws

@@ -1,0 +1,4 @@
+pub mod Bias
+pub mod Opening
+pub mod Ranges
+pub mod Pairs
