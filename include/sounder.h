@@ -4,7 +4,7 @@
  *
  * docs/RULES.md has the formats of tables, bias files, scan records, products and states and all rules. Every
  * function answers every input, keeps nothing between calls and allocates nothing, so that any number of
- * threads may call it, each with buffers of its own; a call takes less than 128 KiB of stack. No function writes
+ * threads may call it, each with buffers of its own; a call takes less than 64 KiB of stack. No function writes
  * past what is named here.
  *
  * A pointer and the count behind it are one argument; the pointer may be null where the count is 0. What is

@@ -3,15 +3,19 @@ ghost use mathlib.Core.Path.{_≡_};
 ghost use Prim.Native.Nat.{_≤_};
 ghost use lib.ListN.{length};
 ghost use Rattle.lists.specs.Tests.{numberOf};
-ghost use Rattle.calibrator.specs.Feeding.{step, Sound};
+ghost use Rattle.table.specs.Opening.{AcceptedTable};
+ghost use Rattle.bias.specs.Opening.{AcceptedBias};
+ghost use Rattle.window.specs.Ranges.{WindowRange};
+ghost use Rattle.calibrator.specs.Feeding.{step};
+ghost use Rattle.calibrator.specs.Steps.{calibratorWith};
 ghost use Rattle.state.specs.State.{stateSize};
 ghost use Rattle.live.specs.Calls.{freshVerdict, freshBy, leftBy, fedState, CallLeaves};
 use bias::BIAS_SIZE;
-use calibrator::Calibrator;
 use state::BIAS_AT;
 use state::STATE_SIZE;
 use state::TABLE_AT;
 use table::TABLE_SIZE;
+use window::Window;
 
 // The answer where the bytes are no state, or no state has room.
 const NO_STATE: u8 = 254;
@@ -21,14 +25,12 @@ const NO_STATE: u8 = 254;
 pub fn fresh(table: &[u8], bias: &[u8], state: &mut [u8]) -> u8
     ensures { λ n. ⌜ (n ≡ numberOf (freshVerdict (now (table .entry)) (now (bias .entry)) (now (state .entry)))) × (now (state .exit) ≡ freshBy (freshVerdict (now (table .entry)) (now (bias .entry)) (now (state .entry))) (now (table .entry)) (now (bias .entry)) (now (state .entry))) ⌝ }
 {
-    let opened = table::open(table);
-    let answer = opened.answer;
+    let answer = table::open(table).answer;
     let number = table::refusal_number(answer);
     if number != 0 {
         return number;
     }
-    let pairs = bias::open(bias);
-    let second = pairs.answer;
+    let second = bias::open(bias).answer;
     let after = table::refusal_number(second);
     if after != 0 {
         return after;
@@ -36,22 +38,30 @@ pub fn fresh(table: &[u8], bias: &[u8], state: &mut [u8]) -> u8
     if state.len() < STATE_SIZE {
         return NO_STATE;
     }
-    state::save(state, Calibrator::fresh(opened.table(), pairs.bias()));
+    state::save(state, table, bias, window::empty());
     0
 }
 
-// Feeds a scan to the calibrator that was read from the state, and saves what an accepted scan makes of it.
-fn feed_restored(calibrator: Calibrator, state: &mut [u8], scan: &[u8], buffer: &mut [u8]) -> u8
-    requires { ⌜ Sound calibrator × (stateSize ≤ length (now state)) ⌝ }
-    ensures { λ n. ⌜ CallLeaves (leftBy (now (state .entry)) (step calibrator (record { scan = now (scan .entry); buffer = now (buffer .entry) }))) n (now (state .exit)) (now (buffer .exit)) ⌝ }
+// Feeds a scan to the calibrator whose table, bias file and window were read from the state, and saves what an accepted scan makes of it.
+fn feed_read(
+    table: &[u8],
+    bias: &[u8],
+    window: Window,
+    state: &mut [u8],
+    scan: &[u8],
+    buffer: &mut [u8],
+) -> u8
+    requires { ⌜ AcceptedTable (now table) × AcceptedBias (now bias) × WindowRange window × (stateSize ≤ length (now state)) ⌝ }
+    ensures { λ n. ⌜ CallLeaves (leftBy (now (state .entry)) (step (calibratorWith (now (table .entry)) (now (bias .entry)) window) (record { scan = now (scan .entry); buffer = now (buffer .entry) }))) n (now (state .exit)) (now (buffer .exit)) ⌝ }
 {
-    let fed = calibrator.feed(scan, buffer);
+    let pairs = bias::pairs_of(bias);
+    let fed = calibrator::feed_with(table, bias, &pairs, window, scan, buffer);
     let answer = fed.answer;
     let number = calibrator::answer_number(answer);
     if number != 0 {
         return number;
     }
-    state::save(state, fed.calibrator);
+    state::save(state, table, bias, fed.window);
     0
 }
 
@@ -79,6 +89,7 @@ pub fn feed(state: &mut [u8], scan: &[u8], buffer: &mut [u8]) -> u8
     if !state::window_inside(window) {
         return NO_STATE;
     }
-    let calibrator = Calibrator::restored(opened.table(), pairs.bias(), window);
-    feed_restored(calibrator, state, scan, buffer)
+    let bytes = opened.table().bytes();
+    let file = pairs.bias().bytes();
+    feed_read(&bytes, &file, window, state, scan, buffer)
 }

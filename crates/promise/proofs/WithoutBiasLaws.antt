@@ -5,7 +5,7 @@ use mathlib.Core.List.{[]}
 use lib.IntN.{ℤ}
 use Rattle.table.specs.Settings.{settingsOf}
 use Rattle.table.specs.Opening.{ages}
-use Rattle.bias.specs.Bias.{biasPart, c0In, eIn, zeroBias}
+use Rattle.bias.specs.Bias.{zeroBias}
 use Rattle.bias.proofs.Zeros.{zero-c0, zero-e}
 use Rattle.scene.specs.Temperature.{biased}
 use Rattle.scene.proofs.BiasRange.{biased-by-zeros}

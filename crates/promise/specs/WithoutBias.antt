@@ -1,6 +1,5 @@
 -- Request W1: a bias file of zeros gives the old products. After every list of feeds the outcome of the next feed is the one without scan bias,
 -- in which T itself is delivered.
-use Prim.Native.Nat.{ℕ}
 use mathlib.Core.Path.{_≡_}
 use mathlib.Core.List.{List, []}
 use Rattle.table.specs.declared.Table.{Table}

@@ -9,10 +9,10 @@ ghost use Rattle.fields.specs.Fields.{headSize, fieldBytes};
 ghost use Rattle.thermometer.specs.Reading.{fromTo};
 ghost use Rattle.table.specs.Opening.{AcceptedTable};
 ghost use Rattle.bias.specs.Opening.{AcceptedBias};
+ghost use Rattle.calibrator.specs.Steps.{calibratorWith};
 ghost use Rattle.state.specs.State.{countsKept, kelvinsKept, stateSize, saved, numberBytes, frontBytes, lastBytes, numbersAt, windowIn, agesReached, numbersInside, windowInside, frontIsRight};
 ghost use Rattle.state.specs.Steps.{windowStart, windowBytes};
 use bias::BIAS_SIZE;
-use calibrator::Calibrator;
 use fields::HEAD;
 use instrument::CHANNELS;
 use instrument::THERMOMETERS;
@@ -245,20 +245,17 @@ fn put_window(out: &mut [u8], any: bool, last: u32, warm: &[u32], cold: &[u32], 
     put_number_field(out, KELVIN_AT - HEAD, TAGS[5], kelvin);
 }
 
-// The calibrator in the place of the state.
-pub fn save(state: &mut [u8], calibrator: Calibrator)
-    requires { ⌜ (stateSize ≤ length (now state)) × AcceptedTable (calibrator .table .bytes) × AcceptedBias (calibrator .bias .bytes) ⌝ }
-    ensures { λ _. ⌜ now (state .exit) ≡ saved (now (state .entry)) calibrator ⌝ }
+// The calibrator that has this table, this bias file and this window, in the place of the state.
+pub fn save(state: &mut [u8], table: &[u8], bias: &[u8], window: Window)
+    requires { ⌜ (stateSize ≤ length (now state)) × AcceptedTable (now table) × AcceptedBias (now bias) ⌝ }
+    ensures { λ _. ⌜ now (state .exit) ≡ saved (now (state .entry)) (calibratorWith (now (table .entry)) (now (bias .entry)) window) ⌝ }
 {
     let front = front_bytes();
-    let table = calibrator.table().bytes();
-    let bias = calibrator.bias().bytes();
-    let window = calibrator.window();
     let warm = window.warm;
     let cold = window.cold;
     let kelvin = window.kelvin;
     put_field(state, 0, TAGS[0], &front);
-    put_field(state, TABLE_AT - HEAD, TAGS[1], &table);
+    put_field(state, TABLE_AT - HEAD, TAGS[1], table);
     put_window(state, window.any, window.last, &warm, &cold, &kelvin);
-    put_field(state, BIAS_AT - HEAD, TAGS[6], &bias);
+    put_field(state, BIAS_AT - HEAD, TAGS[6], bias);
 }

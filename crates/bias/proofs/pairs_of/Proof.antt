@@ -5,7 +5,6 @@ use mathlib.Core.Path.{_≡_, refl, sym, _∙_}
 use mathlib.Core.List.{List}
 use lib.ListN.{length, replicate, length-replicate}
 use denote.Ref.{now}
-use borrow.Author.Needs.{needs}
 use Rattle.lists.specs.Build.{filled}
 use Rattle.lists.proofs.Cells.{filled-none, filled-by-put, filled-to-end}
 use Rattle.fields.specs.Fields.{valueStart}

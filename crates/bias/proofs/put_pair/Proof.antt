@@ -1,7 +1,7 @@
 -- `put_pair` meets its contract: the numbers that are put are those of the pair's two bytes each, 32,768 higher.
 use Prim.Native.Nat.{ℕ, _+_, _*_}
-use mathlib.Core.Path.{_≡_, ap, ap₂, _∙_}
-use mathlib.Core.List.{List, [], _∷_}
+use mathlib.Core.Path.{ap, ap₂, _∙_}
+use mathlib.Core.List.{[], _∷_}
 use denote.Ref.{now}
 use Rattle.lists.specs.Build.{put}
 use Rattle.bias.specs.Pairs.{raised}

@@ -4,12 +4,15 @@ use mathlib.Core.Path.{_≡_, sym, ap, subst, _∙_}
 use denote.Ref.{now}
 use borrow.Author.Tests.{not-true, not-false}
 use Rattle.lists.specs.Tests.{passes}
-use Rattle.table.specs.Opening.{opening}
+use Rattle.table.specs.declared.Table.{Table}
+use Rattle.table.specs.Opening.{opening, AcceptedTable}
 use Rattle.table.proofs.OpenedLaws.{number-is, passed-at-zero}
-use Rattle.bias.specs.Opening.{biasOpening}
+use Rattle.bias.specs.declared.Bias.{Bias}
+use Rattle.bias.specs.Opening.{biasOpening, AcceptedBias}
 use Rattle.bias.proofs.OpeningLaws.{both-by-table, both-by-bias, both-pass}
 use Rattle.calibrator.specs.declared.Calibrator.{Calibrator}
 use Rattle.calibrator.specs.Feeding.{Feed, step}
+use Rattle.calibrator.specs.Steps.{calibratorWith}
 use Rattle.state.specs.State.{tableIn, biasIn, calibratorIn, windowInside}
 use Rattle.state.proofs.InsideLaws.{window-in-range}
 use Rattle.live.specs.Calls.{leftBy, CallLeaves}
@@ -138,23 +141,37 @@ returns-5 c =
 table-requires : tie.Need-table-requires
 table-requires c κs = search needs
 
+bytes-requires : tie.Need-bytes-requires
+bytes-requires c κs = search needs
+
 bias-requires : tie.Need-bias-requires
 bias-requires c κs = search needs
 
-restored-requires : tie.Need-restored-requires
-restored-requires c κs =
-    let last = c .before .before in
+bytes-requires-2 : tie.Need-bytes-requires-2
+bytes-requires-2 c κs = search needs
+
+slice-aggregate-feed-read : tie.Need-slice-aggregate-feed-read
+slice-aggregate-feed-read c = search needs
+
+slice-aggregate-feed-read-2 : tie.Need-slice-aggregate-feed-read-2
+slice-aggregate-feed-read-2 c = search needs
+
+feed-read-requires : tie.Need-feed-read-requires
+feed-read-requires c κs =
+    let file = c .before .before .before .before in
+    let bias = file .before in
+    let bytes = bias .before in
+    let table = bytes .before in
+    let last = table .before in
     let fourth = last .before .before .before .before in
     let pairs = fourth .before .before in
     let third = pairs .before .before .before in
     let opened = third .before .before in (
-      handed-table-accepted _ (c .before .table .ensures) (opened .«open» .ensures .1) (table-passed third),
-      handed-bias-accepted _ (c .bias .ensures) (pairs .open2 .ensures .1) (bias-passed fourth) (pairs .open2 .ensures .2),
+      subst AcceptedTable (sym (bytes .bytes .ensures)) (handed-table-accepted _ (table .table .ensures) (opened .«open» .ensures .1) (table-passed third)),
+      subst AcceptedBias (sym (file .bytes2 .ensures)) (handed-bias-accepted _ (bias .bias .ensures) (pairs .open2 .ensures .1) (bias-passed fourth) (pairs .open2 .ensures .2)),
       window-in-range (sym (last .before .window-inside .ensures) ∙ not-false _ (last .if5 .left)),
+      third .before .before .before .before .before .before .before .before .if1 .left,
     )
-
-feed-restored-requires : tie.Need-feed-restored-requires
-feed-restored-requires c κs = (c .before .before .restored .ensures .1, c .before .before .before .before .before .before .before .before .before .before .before .before .before .before .before .before .before .before .before .before .before .before .if1 .left)
 
 same-length-5 : tie.Need-same-length-5
 same-length-5 c = search needs
@@ -165,9 +182,10 @@ same-length-6 c = search needs
 returns-6 : tie.Need-returns-6
 returns-6 c =
     let fed = c .before .before .before .before in
-    let again = fed .before .before .before in
-    let bias = again .before in
-    let table = bias .before in
+    let file = fed .before .before .before .before .before in
+    let bias = file .before in
+    let bytes = bias .before in
+    let table = bytes .before in
     let last = table .before in
     let inside = last .before in
     let read = inside .before in
@@ -185,11 +203,11 @@ returns-6 c =
     let window = read .window-in .ensures in
     let all = ap windowInside (sym window) ∙ sym (inside .window-inside .ensures) ∙ not-false _ (last .if5 .left) in
     let is = is-state-when state (first .if1 .left) (sym (right .front-is-right .ensures) ∙ not-false _ (second .if2 .left)) (both-pass _ _ passed also) all in
-    let restored : again .restored .result ≡ calibratorIn state =
-    again .restored .ensures .0
-    ∙ rw (handed-table _ (table .table .ensures) (opened .«open» .ensures .1) passed, handed-bias _ (bias .bias .ensures) (pairs .open2 .ensures .1) also, window) in
+    let tableRead = bytes .bytes .ensures ∙ ap (λ (t : Table). t .bytes) (handed-table _ (table .table .ensures) (opened .«open» .ensures .1) passed) in
+    let biasRead = file .bytes2 .ensures ∙ ap (λ (b : Bias). b .bytes) (handed-bias _ (bias .bias .ensures) (pairs .open2 .ensures .1) also) in
+    let read-back : calibratorWith (bytes .bytes .result) (file .bytes2 .result) (read .window-in .result) ≡ calibratorIn state = rw (tableRead, biasRead, window) in
     state-leaves state (feedOf start) is
-    (subst (λ (d : Calibrator). CallLeaves (leftBy state (step d (feedOf start))) (fed .feed-restored .result) (fed .feed-restored .last .1 .0) (fed .feed-restored .last .1 .1 .1 .0)) restored (fed .feed-restored .ensures))
+    (subst (λ (d : Calibrator). CallLeaves (leftBy state (step d (feedOf start))) (fed .feed-read .result) (fed .feed-read .last .1 .1 .1 .0) (fed .feed-read .last .1 .1 .1 .1 .1 .0)) read-back (fed .feed-read .ensures))
 
 pub feed-spec : {M : Type 1} → statement M
 feed-spec =
@@ -220,9 +238,12 @@ feed-spec =
     same-length-4
     returns-5
     table-requires
+    bytes-requires
     bias-requires
-    restored-requires
-    feed-restored-requires
+    bytes-requires-2
+    slice-aggregate-feed-read
+    slice-aggregate-feed-read-2
+    feed-read-requires
     same-length-5
     same-length-6
     returns-6)

@@ -1,14 +1,15 @@
 -- `fresh` meets its contract: each return is what the tests that led there make of `freshVerdict`.
-use mathlib.Core.Path.{_≡_, ap, ap₂, _∙_}
+use mathlib.Core.Path.{_≡_, ap, _∙_}
 use denote.Ref.{now}
 use Rattle.lists.specs.Tests.{passes}
 use Rattle.table.specs.Opening.{opening}
 use Rattle.table.proofs.OpenedLaws.{number-is, passed-at-zero}
 use Rattle.bias.specs.Opening.{biasOpening}
 use Rattle.bias.proofs.OpeningLaws.{both-by-table, both-by-bias, both-pass}
+use Rattle.window.specs.declared.Window.{Window}
 use Rattle.calibrator.specs.Feeding.{freshOf}
+use Rattle.calibrator.specs.Steps.{calibratorWith}
 use Rattle.state.specs.State.{saved}
-use Rattle.live.proofs.HandedLaws.{handed-table, handed-table-accepted, handed-bias, handed-bias-accepted}
 use Rattle.live.proofs.CallLaws.{refused-by-opening, no-room, fresh-saved}
 use borrow.Author.Needs.{needs}
 use Rattle.live.proofs.fresh.Statement.{statement}
@@ -69,47 +70,33 @@ returns-3 c =
     let leaves = no-room (now (a .table)) (now (a .bias)) (now (a .state)) (both-pass _ _ (table-passed first) (bias-passed second)) (c .if3 .taken) in
     (leaves .answer-is, leaves .state-is)
 
-table-requires : tie.Need-table-requires
-table-requires c κs = search needs
-
-bias-requires : tie.Need-bias-requires
-bias-requires c κs = search needs
-
-fresh-requires : tie.Need-fresh-requires
-fresh-requires c κs =
-    let second = c .before .before .before .before in
-    let pairs = second .before .before in
-    let first = pairs .before in
-    let opened = first .before .before in (
-      handed-table-accepted _ (c .before .table .ensures) (opened .«open» .ensures .1) (table-passed first),
-      handed-bias-accepted _ (c .bias .ensures) (pairs .open2 .ensures .1) (bias-passed second) (pairs .open2 .ensures .2),
-    )
+empty-requires : tie.Need-empty-requires
+empty-requires c κs = search needs
 
 save-requires : tie.Need-save-requires
-save-requires c κs = search needs
+save-requires c κs =
+    let room = c .before .before in
+    let second = room .before in
+    let first = second .before .before .before in (
+      room .if3 .left,
+      record { accepted = table-passed first },
+      record { accepted = bias-passed second; bytes = λ k. first .before .before .before .before .shared-slice-known2 .given k .fits },
+    )
 
 same-length : tie.Need-same-length
 same-length c = search needs
 
 returns-4 : tie.Need-returns-4
+unfolding freshOf
 returns-4 c =
     let made = c .before .before .before in
-    let bias = made .before in
-    let table = bias .before in
-    let room = table .before .before in
+    let room = made .before .before in
     let second = room .before in
-    let pairs = second .before .before in
-    let first = pairs .before in
-    let opened = first .before .before in
+    let first = second .before .before .before in
     let a = startOf first .args in
-    let passed = table-passed first in
-    let also = bias-passed second in
-    let is =
-    made .fresh .ensures .0
-    ∙ ap₂ freshOf (handed-table _ (table .table .ensures) (opened .«open» .ensures .1) passed) (handed-bias _ (bias .bias .ensures) (pairs .open2 .ensures .1) also) in
     let leaves =
-    fresh-saved (now (a .table)) (now (a .bias)) (now (a .state)) (both-pass _ _ passed also) (room .if3 .left)
-    (c .before .before .save .ensures ∙ ap (saved (now (a .state))) is) in
+    fresh-saved (now (a .table)) (now (a .bias)) (now (a .state)) (both-pass _ _ (table-passed first) (bias-passed second)) (room .if3 .left)
+    (c .before .before .save .ensures ∙ ap (λ (w : Window). saved (now (a .state)) (calibratorWith (now (a .table)) (now (a .bias)) w)) (made .empty .ensures)) in
     (leaves .answer-is, leaves .state-is)
 
 pub fresh-spec : {M : Type 1} → statement M
@@ -123,9 +110,7 @@ fresh-spec =
     refusal-number-requires-2
     returns-2
     returns-3
-    table-requires
-    bias-requires
-    fresh-requires
+    empty-requires
     save-requires
     same-length
     returns-4)

@@ -1,6 +1,6 @@
 -- `write_channel` meets its contract. The loop's invariant: the first i scenes stand at the front as their bits, the rest is as it was, and
 -- the summary is that of the first i scenes.
-use Prim.Native.Nat.{ℕ, _-_, _<_, _≤_}
+use Prim.Native.Nat.{ℕ, _-_, _≤_}
 use native.Mathlib.Omega.{arith}
 use mathlib.Core.Path.{_≡_, refl, sym, ap, subst, _∙_}
 use mathlib.Core.List.{List}

@@ -7,8 +7,8 @@ use mathlib.Core.List.{[], _∷_}
 use lib.Dec.{lit<}
 use lib.IntN.{ℤ, pos, natAbs, _+ℤ_, _-ℤ_, _*ℤ_}
 use lib.Signed.{_≤ℤ_, ltZ-yes, yes-nonNeg, pos-natAbs}
-use mir.Syntax.{w32, w64}
-use mir.Val.{SFits, toZ, ofZ}
+use mir.Syntax.{w32}
+use mir.Val.{SFits, toZ}
 use mir.ValLaws.{toZ-pos}
 use Rattle.integers.specs.Rounding.{floor, r}
 use Rattle.integers.proofs.Ring.{_:+_, _:-_, ring, #, v0, v1}

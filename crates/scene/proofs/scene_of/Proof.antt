@@ -1,19 +1,18 @@
 -- `scene::scene_of` meets its contract. N and T are read back as themselves, so both tests are those of the definition, and each branch
 -- gives the scene of its outcome; T is in its range, so that the guard cannot fail and what is delivered is a natural number below 2^24.
 -- Assumes nothing.
-use mathlib.Core.Path.{_≡_, sym, ap, _∙_}
+use mathlib.Core.Path.{_≡_, ap, _∙_}
 use mathlib.Core.Bool.{Bool, true, false}
 use Prim.Native.Nat.{ℕ, _≤_}
-use native.Mathlib.Nat.{lt-of-le-of-lt}
 use native.Mathlib.Omega.{arith}
 use lib.Dec.{lit<}
-use lib.IntN.{ℤ, pos, natAbs, _-ℤ_, _*ℤ_}
-use lib.Signed.{_≤ℤ_, ltZ, yes-nonNeg}
+use lib.IntN.{ℤ, pos, _-ℤ_, _*ℤ_}
+use lib.Signed.{_≤ℤ_, ltZ}
 use mir.Syntax.{w32, w64}
 use mir.Val.{SFits, toZ, ofZ}
 use borrow.Author.Needs.{needs}
 use Rattle.integers.specs.Rounding.{floor}
-use Rattle.integers.proofs.Naturals.{not-negative-is, natural-at-most, at-most-natural}
+use Rattle.integers.proofs.Naturals.{natural-at-most}
 use Rattle.integers.proofs.Order.{ltZ-false, at-most-trans, at-most-fails}
 use Rattle.integers.proofs.Machine.{bounded-fits, reads-back, natural-reads-back, floor-fits}
 use Rattle.scene.proofs.Bracket.{top-test}
@@ -24,7 +23,7 @@ use Rattle.scene.proofs.Ranges.{SceneRange, scene-range, slope-bounded,
 use Rattle.scene.proofs.BiasRange.{temperature-low, temperature-high, biased-low, biased-high}
 use Rattle.scene.specs.Temperature.{biased}
 use Rattle.scene.specs.Steps.{c0Of, eOf}
-use Rattle.scene.proofs.Delivered.{temperatureOf, scene-negative, scene-above, scene-kelvin, WithinGuard, within-guard}
+use Rattle.scene.proofs.Delivered.{temperatureOf, scene-negative, scene-above, scene-kelvin}
 use Rattle.scene.proofs.scene_of.Statement.{statement}
 use Rattle.scene.proofs.scene_of.Tie as tie
 

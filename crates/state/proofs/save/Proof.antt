@@ -1,54 +1,30 @@
 -- `save` meets its contract: the fields of a state, each put right behind the one before.
 use Prim.Native.Nat.{ℕ}
 use native.Mathlib.Omega.{arith}
-use mathlib.Core.Path.{_≡_, sym, ap, subst, _∙_}
+use mathlib.Core.Path.{sym, ap, _∙_}
 use mathlib.Core.List.{List}
 use lib.ListN.{length}
 use denote.Ref.{now}
 use Rattle.lists.specs.Build.{put}
 use Rattle.fields.specs.Fields.{field, fieldBytes}
-use Rattle.fields.proofs.LayoutLaws.{fieldStart}
-use Rattle.table.specs.declared.Table.{Table}
 use Rattle.table.proofs.OpeningLaws.{accepted-length}
-use Rattle.bias.specs.declared.Bias.{Bias}
-use Rattle.bias.specs.Bias.{biasSize}
 use Rattle.bias.proofs.OpeningLaws.{accepted-bias-length}
-use Rattle.window.specs.declared.Window.{Window}
-use Rattle.state.specs.State.{stateLayout}
-use Rattle.state.specs.Steps.{windowStart, windowBytes}
+use Rattle.calibrator.specs.Steps.{calibratorWith}
 use Rattle.state.proofs.WindowLaws.{Shaped}
 use Rattle.state.proofs.PutLaws.{state-put}
 use borrow.Author.Needs.{needs}
 use Rattle.state.proofs.save.Statement.{statement}
 use Rattle.state.proofs.save.Tie as tie
 
-shaped : (x : tie.After-window) → Shaped (x .window .result)
+shaped : (x : tie.After-kelvin) → Shaped (x .before .before .before .before .before .before .before .args .window)
 shaped x = record { warm = search needs; cold = search needs; kelvin = search needs }
 
-pairs-long : (x : tie.After-bytes2) → length (x .bytes2 .result) ≡ biasSize
-pairs-long x = search needs
-
--- where the window was handed out, from where its fields are put
-abbrev windowRead : tie.After-warm2 → tie.After-window
-windowRead c = c .before .before .before .before .before .before .before .before .before .before .before .before .before .before .before
+-- where the window was taken apart, from where its fields are put
+abbrev windowRead : tie.After-warm2 → tie.After-kelvin
+windowRead c = c .before .before .before .before .before .before .before .before .before .before .before
 
 front-bytes-requires : tie.Need-front-bytes-requires
 front-bytes-requires c κs = search needs
-
-table-requires : tie.Need-table-requires
-table-requires c κs = search needs
-
-bytes-requires : tie.Need-bytes-requires
-bytes-requires c κs = search needs
-
-bias-requires : tie.Need-bias-requires
-bias-requires c κs = search needs
-
-bytes-requires-2 : tie.Need-bytes-requires-2
-bytes-requires-2 c κs = search needs
-
-window-requires : tie.Need-window-requires
-window-requires c κs = search needs
 
 array-read-put-field : tie.Need-array-read-put-field
 array-read-put-field c = search needs
@@ -65,11 +41,12 @@ sub-put-field c = search needs
 array-read-put-field-2 : tie.Need-array-read-put-field-2
 array-read-put-field-2 c = search needs
 
-slice-aggregate-put-field-2 : tie.Need-slice-aggregate-put-field-2
-slice-aggregate-put-field-2 c = search needs
-
 put-field-requires-2 : tie.Need-put-field-requires-2
-put-field-requires-2 c κs = search needs
+put-field-requires-2 c κs =
+    let f = c .before .before .before in
+    let start = f .before .before .before .before .before .before .before .before .before .before in
+    let long = accepted-length (start .pre .1) in
+    (omega (arith, long), omega (arith, long, f .put-field .kept .0, start .pre .0))
 
 slice-aggregate-put-window : tie.Need-slice-aggregate-put-window
 slice-aggregate-put-window c = sym (shaped (windowRead c) .warm)
@@ -91,18 +68,14 @@ sub-put-field-2 c = search needs
 array-read-put-field-3 : tie.Need-array-read-put-field-3
 array-read-put-field-3 c = search needs
 
-slice-aggregate-put-field-3 : tie.Need-slice-aggregate-put-field-3
-slice-aggregate-put-field-3 c = search needs
-
 put-field-requires-3 : tie.Need-put-field-requires-3
 put-field-requires-3 c κs =
-    let w = c .before .before .before .before in
+    let w = c .before .before .before in
     let t = w .before .before .before .before .before .before .before in
-    let f = t .before .before .before .before .before in
-    let window = f .before .before .before .before .before .before in
-    let long = pairs-long (window .before) in
-    let start = window .before .before .before .before .before .before .before in
-    (omega arith, omega (arith, w .put-window .kept .0, t .put-field2 .kept .0, f .put-field .kept .0, start .pre .0))
+    let f = t .before .before .before .before in
+    let start = f .before .before .before .before .before .before .before .before .before .before in
+    let long = accepted-bias-length (start .pre .2) in
+    (omega (arith, long), omega (arith, long, w .put-window .kept .0, t .put-field2 .kept .0, f .put-field .kept .0, start .pre .0))
 
 same-length : tie.Need-same-length
 same-length c = search needs
@@ -110,40 +83,29 @@ same-length c = search needs
 returns : tie.Need-returns
 returns c =
     let b = c .before .before in
-    let w = b .before .before .before .before .before in
+    let w = b .before .before .before .before in
     let t = w .before .before .before .before .before .before .before in
-    let f = t .before .before .before .before .before in
-    let window = f .before .before .before .before .before .before in
-    let pairs = window .before in
-    let bias = pairs .before in
-    let bytes = bias .before in
-    let table = bytes .before in
-    let front = table .before in
-    let start = front .before .before in
-    let tableValue = bytes .bytes .ensures ∙ ap (λ (t : Table). t .bytes) (table .table .ensures) in
-    let biasValue = pairs .bytes2 .ensures ∙ ap (λ (t : Bias). t .bytes) (bias .bias .ensures) in
-    state-put (start .args .calibrator) (subst Shaped (window .window .ensures) (shaped window)) (accepted-length (start .pre .1)) (accepted-bias-length (start .pre .2)) (now (start .args .state)) (start .pre .0)
-    (f .put-field .ensures ∙ ap (λ (l : List ℕ). put (now (start .args .state)) 0 (fieldBytes (field 0x30 (length l)) l)) (front .front-bytes .ensures))
-    (t .put-field2 .ensures ∙ ap (λ (l : List ℕ). put (f .put-field .last .0) (fieldStart stateLayout 1) (fieldBytes (field 0x31 (length l)) l)) tableValue)
-    (w .put-window .ensures ∙ ap (λ (v : Window). put (t .put-field2 .last .0) windowStart (windowBytes v)) (window .window .ensures))
-    (b .put-field3 .ensures ∙ ap (λ (l : List ℕ). put (w .put-window .last .0) (fieldStart stateLayout 6) (fieldBytes (field 0x36 (length l)) l)) biasValue)
+    let f = t .before .before .before .before in
+    let window = f .before .before .before in
+    let front = window .before .before .before in
+    let start = front .before .before .before .before in
+    let a = start .args in
+    state-put (calibratorWith (now (a .table)) (now (a .bias)) (a .window)) (shaped window) (accepted-length (start .pre .1)) (accepted-bias-length (start .pre .2)) (now (a .state)) (start .pre .0)
+    (f .put-field .ensures ∙ ap (λ (l : List ℕ). put (now (a .state)) 0 (fieldBytes (field 0x30 (length l)) l)) (front .front-bytes .ensures))
+    (t .put-field2 .ensures)
+    (w .put-window .ensures)
+    (b .put-field3 .ensures)
 
 pub save-spec : {M : Type 1} → statement M
 save-spec =
     tie.close
     (tie.spec
     front-bytes-requires
-    table-requires
-    bytes-requires
-    bias-requires
-    bytes-requires-2
-    window-requires
     array-read-put-field
     slice-aggregate-put-field
     put-field-requires
     sub-put-field
     array-read-put-field-2
-    slice-aggregate-put-field-2
     put-field-requires-2
     slice-aggregate-put-window
     slice-aggregate-put-window-2
@@ -151,7 +113,6 @@ save-spec =
     put-window-requires
     sub-put-field-2
     array-read-put-field-3
-    slice-aggregate-put-field-3
     put-field-requires-3
     same-length
     returns)
