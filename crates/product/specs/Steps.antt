@@ -1,4 +1,4 @@
--- What the private functions cite. A reader of the promises can leave this out.
+-- What the private functions cite, and the writer that is lent a bias file as numbers. A reader of the promises can leave this out.
 use Prim.Native.Nat.{ℕ, _+_, _*_, _<_}
 use mathlib.Core.List.{List}
 use mathlib.Core.Bool.{not, cond}
