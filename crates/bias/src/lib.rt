@@ -31,7 +31,7 @@ const PART_SIZE: usize = PAIR_SIZE * POSITIONS;
 // How many pairs a bias file has, and how many numbers they are.
 const PAIRS: usize = POSITIONS * CHANNELS;
 
-pub const PAIR_NUMBERS: usize = 2 * PAIRS;
+const PAIR_NUMBERS: usize = 2 * PAIRS;
 
 // An opened bias file. Only `open` makes one.
 pub struct Bias {
@@ -159,7 +159,7 @@ impl Opened {
 }
 
 impl Bias {
-    // The bytes, for the readers above.
+    // The bytes, for `pairs_of` and for whoever is lent them.
     pub fn bytes(self) -> [u8; BIAS_SIZE]
         ensures { λ r. ⌜ r ≡ self .bytes ⌝ }
     {

@@ -80,8 +80,8 @@ pub fn feed(state: &mut [u8], scan: &[u8], buffer: &mut [u8]) -> u8
     if table::refusal_number(answer) != 0 {
         return NO_STATE;
     }
-    let pairs = bias::open(&state[BIAS_AT..BIAS_AT + BIAS_SIZE]);
-    let second = pairs.answer;
+    let opened_bias = bias::open(&state[BIAS_AT..BIAS_AT + BIAS_SIZE]);
+    let second = opened_bias.answer;
     if table::refusal_number(second) != 0 {
         return NO_STATE;
     }
@@ -90,6 +90,6 @@ pub fn feed(state: &mut [u8], scan: &[u8], buffer: &mut [u8]) -> u8
         return NO_STATE;
     }
     let bytes = opened.table().bytes();
-    let file = pairs.bias().bytes();
+    let file = opened_bias.bias().bytes();
     feed_read(&bytes, &file, window, state, scan, buffer)
 }

@@ -9,7 +9,7 @@ use Rattle.integers.specs.Rounding.{r}
 use Rattle.integers.specs.Bounds.{Bounded}
 use Rattle.integers.proofs.Ring.{_:+_, _:-_, _:*_, opp, #, v0, v1, v2, v3, v4}
 use Rattle.integers.proofs.Certificate.{_:≤_, _:<_, hyp, nat, _⊕_, _⊗_, le-by, lt-by}
-use Rattle.integers.proofs.Bounds.{bounded-sum, bounded-product, bounded-not-negative, bounded-by-itself, number-bounded}
+use Rattle.integers.proofs.Bounds.{bounded-product, bounded-not-negative, bounded-by-itself, number-bounded}
 use Rattle.integers.proofs.Nearest.{r-within-half, r-unique, within-half-at-least, within-half-at-most}
 use Rattle.integers.proofs.Order.{product-not-negative, at-most-or-above}
 use Rattle.scene.specs.Temperature.{X, temperature, biased}
@@ -77,9 +77,6 @@ module _ {tc rise tnl d n : ℤ} (s : SceneRange tc rise tnl d n) where
 
 -- ---- scan bias
 module _ {c0 e t : ℤ} (of-c0 : Bounded c0 (pos 4096)) (of-e : Bounded e (pos 32768)) (low : pos 11166 ≤ℤ t) (high : t ≤ℤ pos 1832984) where
-  pub factor-bounded : Bounded (pos 65536 +ℤ e) (pos 98304)
-  factor-bounded = bounded-sum (number-bounded 65536) of-e
-
   pub product-not-below : pos 0 ≤ℤ ((pos 65536 +ℤ e) *ℤ t)
   product-not-below = (le-by (e ∷ t ∷ []) ((opp (# 32768) :≤ v0) ∷ (# 11166 :≤ v1) ∷ []) (# 0) ((# 65536 :+ v0) :* v1) (hyp 0 ⊕ nat 11166 ⊗ hyp 1 ⊕ nat 32768 ⊗ hyp 2 ⊕ hyp 1 ⊗ hyp 2) tt (of-e .low) low)
 

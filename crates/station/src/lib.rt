@@ -77,14 +77,14 @@ pub extern "C" fn sounder_feed_all(
     if number != 0 {
         return number;
     }
-    let pairs = bias::open(bias);
-    let second = pairs.answer;
+    let opened_bias = bias::open(bias);
+    let second = opened_bias.answer;
     let after = table::refusal_number(second);
     if after != 0 {
         return after;
     }
     feeds::feed_list(
-        Calibrator::fresh(opened.table(), pairs.bias()),
+        Calibrator::fresh(opened.table(), opened_bias.bias()),
         records,
         record_lengths,
         buffers,

@@ -164,11 +164,11 @@ feed-read-requires c κs =
     let table = bytes .before in
     let last = table .before in
     let fourth = last .before .before .before .before in
-    let pairs = fourth .before .before in
-    let third = pairs .before .before .before in
+    let biasOpened = fourth .before .before in
+    let third = biasOpened .before .before .before in
     let opened = third .before .before in (
       subst AcceptedTable (sym (bytes .bytes .ensures)) (handed-table-accepted _ (table .table .ensures) (opened .«open» .ensures .1) (table-passed third)),
-      subst AcceptedBias (sym (file .bytes2 .ensures)) (handed-bias-accepted _ (bias .bias .ensures) (pairs .open2 .ensures .1) (bias-passed fourth) (pairs .open2 .ensures .2)),
+      subst AcceptedBias (sym (file .bytes2 .ensures)) (handed-bias-accepted _ (bias .bias .ensures) (biasOpened .open2 .ensures .1) (bias-passed fourth) (biasOpened .open2 .ensures .2)),
       window-in-range (sym (last .before .window-inside .ensures) ∙ not-false _ (last .if5 .left)),
       third .before .before .before .before .before .before .before .before .if1 .left,
     )
@@ -190,8 +190,8 @@ returns-6 c =
     let inside = last .before in
     let read = inside .before in
     let fourth = read .before .before in
-    let pairs = fourth .before .before in
-    let third = pairs .before .before .before in
+    let biasOpened = fourth .before .before in
+    let third = biasOpened .before .before .before in
     let opened = third .before .before in
     let second = opened .before .before .before in
     let right = second .before in
@@ -204,7 +204,7 @@ returns-6 c =
     let all = ap windowInside (sym window) ∙ sym (inside .window-inside .ensures) ∙ not-false _ (last .if5 .left) in
     let is = is-state-when state (first .if1 .left) (sym (right .front-is-right .ensures) ∙ not-false _ (second .if2 .left)) (both-pass _ _ passed also) all in
     let tableRead = bytes .bytes .ensures ∙ ap (λ (t : Table). t .bytes) (handed-table _ (table .table .ensures) (opened .«open» .ensures .1) passed) in
-    let biasRead = file .bytes2 .ensures ∙ ap (λ (b : Bias). b .bytes) (handed-bias _ (bias .bias .ensures) (pairs .open2 .ensures .1) also) in
+    let biasRead = file .bytes2 .ensures ∙ ap (λ (b : Bias). b .bytes) (handed-bias _ (bias .bias .ensures) (biasOpened .open2 .ensures .1) also) in
     let read-back : calibratorWith (bytes .bytes .result) (file .bytes2 .result) (read .window-in .result) ≡ calibratorIn state = rw (tableRead, biasRead, window) in
     state-leaves state (feedOf start) is
     (subst (λ (d : Calibrator). CallLeaves (leftBy state (step d (feedOf start))) (fed .feed-read .result) (fed .feed-read .last .1 .1 .1 .0) (fed .feed-read .last .1 .1 .1 .1 .1 .0)) read-back (fed .feed-read .ensures))

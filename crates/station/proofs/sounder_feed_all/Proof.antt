@@ -92,11 +92,11 @@ bias-requires c κs = search needs
 fresh-requires : tie.Need-fresh-requires
 fresh-requires c κs =
     let second = c .before .before in
-    let pairs = second .before .before in
-    let first = pairs .before in
+    let biasOpened = second .before .before in
+    let first = biasOpened .before in
     let opened = first .before .before in (
       handed-table-accepted _ (c .before .table .ensures) (opened .«open» .ensures .1) (table-passed first),
-      handed-bias-accepted _ (c .bias .ensures) (pairs .open2 .ensures .1) (bias-passed second) (pairs .open2 .ensures .2),
+      handed-bias-accepted _ (c .bias .ensures) (biasOpened .open2 .ensures .1) (bias-passed second) (biasOpened .open2 .ensures .2),
     )
 
 feed-list-requires : tie.Need-feed-list-requires
@@ -115,14 +115,14 @@ returns-3 c =
     let bias = made .before in
     let table = bias .before in
     let second = table .before in
-    let pairs = second .before .before in
-    let first = pairs .before in
+    let biasOpened = second .before .before in
+    let first = biasOpened .before in
     let opened = first .before .before in
     let passed = table-passed first in
     let also = bias-passed second in
     passed-is-fed _ _ _ _ _ _ _ (both-pass _ _ passed also)
     (made .fresh .ensures .0
-    ∙ ap₂ freshOf (handed-table _ (table .table .ensures) (opened .«open» .ensures .1) passed) (handed-bias _ (bias .bias .ensures) (pairs .open2 .ensures .1) also))
+    ∙ ap₂ freshOf (handed-table _ (table .table .ensures) (opened .«open» .ensures .1) passed) (handed-bias _ (bias .bias .ensures) (biasOpened .open2 .ensures .1) also))
     (fed .feed-list .ensures .0)
     (fed .feed-list .ensures .1)
 
