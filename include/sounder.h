@@ -21,8 +21,8 @@ extern "C" {
 #endif
 
 /* The version of this header, as text and as the number 10000 * major + 100 * minor + patch. */
-#define SOUNDER_VERSION "2.0.0"
-#define SOUNDER_VERSION_NUMBER 20000
+#define SOUNDER_VERSION "3.0.0"
+#define SOUNDER_VERSION_NUMBER 30000
 
 enum {
     SOUNDER_TABLE_BYTES = 741,

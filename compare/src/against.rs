@@ -390,13 +390,18 @@ where
 #[cfg(test)]
 mod tests {
     use super::*;
+    use crate::generator::ratios::{ratio, Mistake, MISTAKES};
     use crate::generator::states::StateValues;
+    use crate::second::acceptance::thermometer_reading;
     use crate::second::bias::open_bias;
     use crate::second::listing::listing;
     use crate::second::rounding::r;
     use crate::second::state;
     use crate::second::station::feed_all;
-    use crate::second::thermometer::one_thermometer;
+    use crate::second::thermometer::{
+        measured, one_thermometer, Coefficients, Reading, HIGHEST_T, KELVIN_OF_ZERO_CELSIUS,
+        LOWEST_T,
+    };
 
     /// Whether a comparison fails at one of the first seeds.
     fn finds(comparison: impl Fn(u64, &mut Counters) -> Result<(), String>, seeds: u64) -> bool {
@@ -544,6 +549,80 @@ mod tests {
             |seed, counters| thermometer(seed, wrong, counters),
             200
         ));
+    }
+
+    /// The rule with a mistake.
+    fn mistaken_rule(
+        reading: &Reading,
+        coefficients: &Coefficients,
+        mistake: Mistake,
+    ) -> Result<i128, u8> {
+        let f = |t: i128| ratio(t, coefficients, Some(mistake));
+        if reading.pam <= reading.offset {
+            return Err(9);
+        }
+        let m = measured(reading, coefficients.resistance);
+        if reading.count < reading.offset || m < f(LOWEST_T) || m > f(HIGHEST_T) {
+            return Err(10);
+        }
+        let (mut reached, mut past) = (LOWEST_T, HIGHEST_T + 1);
+        while past - reached > 1 {
+            let middle = (reached + past).div_euclid(2);
+            if f(middle) <= m {
+                reached = middle;
+            } else {
+                past = middle;
+            }
+        }
+        Ok(reached)
+    }
+
+    fn mistaken_thermometer(input: &ThermometerInput, mistake: Mistake) -> Result<i32, u8> {
+        let (reading, coefficients) = (input.reading(), input.coefficients());
+        match one_thermometer(&reading, &coefficients) {
+            Err(8) => Err(8),
+            _ => mistaken_rule(&reading, &coefficients, mistake).map(|t| t as i32),
+        }
+    }
+
+    #[test]
+    fn thermometers_differ_by_each_mistake() {
+        for mistake in MISTAKES {
+            let wrong = |input: &ThermometerInput| mistaken_thermometer(input, mistake);
+            let finds_it = finds(|seed, counters| thermometer(seed, wrong, counters), 400);
+            assert!(finds_it, "{mistake:?}");
+        }
+        // The fourth-degree term moves the upper end alone.
+        let wrong = |input: &ThermometerInput| {
+            let (reading, coefficients) = (input.reading(), input.coefficients());
+            match one_thermometer(&reading, &coefficients) {
+                Err(10) => mistaken_thermometer(input, Mistake::TermAboveZero).map(|_| 245_760),
+                answer => answer.map(|t| t as i32),
+            }
+        };
+        assert!(finds(
+            |seed, counters| thermometer(seed, wrong, counters),
+            400
+        ));
+    }
+
+    #[test]
+    fn samples_differ_by_the_fourth_degree_term() {
+        for mistake in [Mistake::TermAboveZero, Mistake::NoTerm] {
+            let wrong = |table: &[u8], record: &[u8]| {
+                let (table, record) = (open(table).unwrap(), ScanRecord::read(record).unwrap());
+                let mut samples = accepted_samples(&table, &record);
+                for one in &mut samples.thermometers {
+                    let index = one.number - 1;
+                    let reading = thermometer_reading(&table, &record, index);
+                    let coefficients = &table.thermometers[index].coefficients;
+                    let t = mistaken_rule(&reading, coefficients, mistake).unwrap_or(0);
+                    one.temperature = t + KELVIN_OF_ZERO_CELSIUS;
+                }
+                samples
+            };
+            assert!(finds(|seed, _| samples(seed, wrong), 20), "{mistake:?}");
+        }
     }
 
     #[test]
@@ -806,7 +885,7 @@ mod tests {
         }
         let no_version = |memory: &mut [u8], record: &[u8], buffer: &mut [u8]| {
             let mut repaired = memory.to_vec();
-            repaired[7..11].copy_from_slice(&[0, 0, 0, 2]);
+            repaired[7..11].copy_from_slice(&[0, 0, 0, 3]);
             state::feed(&mut repaired, record, buffer)
         };
         assert!(finds(

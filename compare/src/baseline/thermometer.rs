@@ -9,10 +9,15 @@ const ONE: i64 = 16_777_216;
 fn ratio(alpha: i64, delta: i64, beta: i64, t: i64) -> i64 {
     let q = t * (t - 409_600);
     let s1 = (delta * q).div_euclid(160_000_000_000);
-    let y = q.div_euclid(10_000);
-    let w = (t * t).div_euclid(10_000);
-    let h = (y * w).div_euclid(ONE);
-    let s2 = (beta * h).div_euclid(16_000_000);
+    // The fourth-degree term counts below 0 °C only.
+    let s2 = if t < 0 {
+        let y = q.div_euclid(10_000);
+        let w = (t * t).div_euclid(10_000);
+        let h = (y * w).div_euclid(ONE);
+        (beta * h).div_euclid(16_000_000)
+    } else {
+        0
+    };
     ONE + (alpha * (256 * t - s1 - s2)).div_euclid(62_500_000)
 }
 

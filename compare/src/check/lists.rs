@@ -6,14 +6,15 @@ use super::counters::Counters;
 use super::outcomes::Outcome;
 use super::products::check_product;
 use super::rules::{scan_values, ScanValues};
-use super::samples::count_samples;
+use super::samples::{count_samples, side_of_zero};
 use super::twins::checked_twin;
 use crate::generator::lists::{feed_list, Feed, FeedList};
 use crate::generator::random::case_seed;
 use crate::generator::twins::alike_twin;
 use crate::second::acceptance::accepted_samples;
 use crate::second::calibrator::Calibrator;
-use crate::second::product::LENGTH;
+use crate::second::product::{summary_of, LENGTH};
+use crate::second::table::{Table, Target, CHANNELS, TARGETS};
 use crate::second::window::window_records;
 
 /// Which of 4 to 7 apply to a feed, each stated for itself where it can be.
@@ -90,6 +91,46 @@ fn count_feed(feed: &Feed, last: Option<u32>, all: &[u8], counters: &mut Counter
     }
 }
 
+/// T of each thermometer of a target that weighs in the window of a scan.
+fn weighing_temperatures(
+    table: &Table,
+    accepted: &BTreeMap<u32, ScanValues>,
+    current: u32,
+    target: Target,
+) -> Vec<i128> {
+    let mut temperatures = Vec::new();
+    for (number, scan) in accepted.range(current.saturating_sub(7)..=current) {
+        let v = table.thermometer_weights[(current - number) as usize];
+        for (thermometer, temperature) in &scan.thermometers {
+            let index = thermometer - 1;
+            if target.thermometers().contains(&index) && v * table.thermometers[index].weight > 0 {
+                temperatures.push(*temperature);
+            }
+        }
+    }
+    temperatures
+}
+
+/// Counts on which side of 0 °C the thermometers lie that weigh in delivered scenes.
+fn count_delivered_sides(
+    table: &Table,
+    accepted: &BTreeMap<u32, ScanValues>,
+    current: u32,
+    product: &[u8],
+    counters: &mut Counters,
+) {
+    for target in TARGETS {
+        let delivers = |channel: usize| {
+            Target::of_channel(channel) == target && summary_of(product, channel).delivered > 0
+        };
+        if (0..CHANNELS).any(delivers) {
+            let temperatures = weighing_temperatures(table, accepted, current, target);
+            let side = side_of_zero(&temperatures).expect("a delivered scene has its thermometers");
+            counters.met("thermometers behind delivered scenes", side);
+        }
+    }
+}
+
 /// Feeds a list and checks every feed.
 pub fn checked_outcomes(list: &FeedList, counters: &mut Counters) -> Result<Vec<Outcome>, String> {
     let opened = Calibrator::of_files(&list.table, &list.bias);
@@ -134,6 +175,7 @@ pub fn checked_outcomes(list: &FeedList, counters: &mut Counters) -> Result<Vec<
             let product = &buffer[..LENGTH];
             check_product(&table, &list.bias, &record, product, &accepted, counters)
                 .map_err(about)?;
+            count_delivered_sides(&table, &accepted, record.number(), product, counters);
             // The restart feeds up to eight records again, so not after every feed.
             if index % 3 == 0 {
                 if calibrator.product_after_restart() != product {

@@ -1,9 +1,15 @@
 //! Counts at which edges the samples of accepted records stand.
 
 use super::counters::Counters;
-use crate::second::acceptance::{good_counts, target_readings, AcceptedCount, AcceptedSamples};
+use super::thermometers::Measured;
+use crate::generator::ratios::Mistake;
+use crate::second::acceptance::{
+    good_counts, target_readings, thermometer_reading, AcceptedCount, AcceptedSamples,
+    AcceptedThermometer,
+};
 use crate::second::record::ScanRecord;
 use crate::second::table::{Limits, Side, Table, CHANNELS, SIDES, TARGETS};
+use crate::second::thermometer::KELVIN_OF_ZERO_CELSIUS;
 
 /// What a scan keeps of its accepted samples: of each warm side, then each cold, 0 where no count is
 /// accepted, else one more than the scan value; of each thermometer T, 0 where it is not accepted.
@@ -87,7 +93,9 @@ pub fn count_samples(
         if table.thermometers[thermometer.number - 1].weight == 0 {
             counters.met("target readings", "accepted without weight");
         }
+        count_thermometer(table, record, thermometer, counters);
     }
+    count_targets(&samples.thermometers, counters);
     for channel in 0..CHANNELS {
         let mut good = Vec::new();
         for side in SIDES {
@@ -146,6 +154,72 @@ pub fn count_samples(
                 counters.met("scan value of", &class);
             }
         }
+    }
+}
+
+/// On which side of 0 °C some thermometers lie, by T; none where there are none.
+pub(super) fn side_of_zero(temperatures: &[i128]) -> Option<&'static str> {
+    let is_below = |temperature: &i128| *temperature < KELVIN_OF_ZERO_CELSIUS;
+    let below = temperatures.iter().filter(|one| is_below(one)).count();
+    match below {
+        _ if temperatures.is_empty() => None,
+        0 => Some("at or above 0"),
+        below if below == temperatures.len() => Some("below 0"),
+        _ => Some("on both sides of 0"),
+    }
+}
+
+/// Counts on which side of 0 °C the accepted thermometers of each target lie.
+fn count_targets(accepted: &[AcceptedThermometer], counters: &mut Counters) {
+    let sides = TARGETS.map(|target| {
+        let of_target =
+            |one: &&AcceptedThermometer| target.thermometers().contains(&(one.number - 1));
+        let own = accepted.iter().filter(of_target);
+        let temperatures: Vec<i128> = own.map(|one| one.temperature).collect();
+        side_of_zero(&temperatures)
+    });
+    let mut met = |class: &str| counters.met("accepted thermometers", class);
+    for side in sides.iter().flatten() {
+        met(&format!("target {side}"));
+    }
+    match sides {
+        [Some("below 0"), Some("below 0")] => met("KAV and WG below 0"),
+        [Some("at or above 0"), Some("at or above 0")] => met("KAV and WG at or above 0"),
+        [Some("below 0"), Some("at or above 0")] => met("KAV below 0, WG at or above"),
+        [Some("at or above 0"), Some("below 0")] => met("WG below 0, KAV at or above"),
+        _ => {}
+    }
+}
+
+/// Counts t of an accepted thermometer around 0, its side of 0 °C at the ends of beta, and the mistakes
+/// with which its T would be another or it would be refused.
+fn count_thermometer(
+    table: &Table,
+    record: &ScanRecord,
+    thermometer: &AcceptedThermometer,
+    counters: &mut Counters,
+) {
+    let mut met = |class: &str| counters.met("accepted thermometers", class);
+    let index = thermometer.number - 1;
+    let coefficients = &table.thermometers[index].coefficients;
+    let t = thermometer.temperature - KELVIN_OF_ZERO_CELSIUS;
+    if (-1..=1).contains(&t) {
+        met(&format!("t {t}"));
+    }
+    match (t < 0, coefficients.beta) {
+        (true, 0) => met("below 0, beta 0"),
+        (true, 500_000) => met("below 0, beta at its end"),
+        (false, 0) => met("at or above 0, beta 0"),
+        (false, 500_000) => met("at or above 0, beta at its end"),
+        _ => {}
+    }
+    let reading = thermometer_reading(table, record, index);
+    let measured = Measured::of(&reading, coefficients.resistance);
+    if measured.shows(Mistake::TermAboveZero, coefficients, Some(t)) {
+        met("another T by fourth-degree term above 0");
+    }
+    if measured.shows(Mistake::NoTerm, coefficients, Some(t)) {
+        met("another T by no fourth-degree term");
     }
 }
 

@@ -60,7 +60,7 @@ pub fn reasons(bytes: &[u8]) -> Vec<&'static str> {
     if bytes[3..7] != *b"SNDR" {
         all.push("magic number");
     }
-    if bytes[7..11] != [0, 0, 0, 2] {
+    if bytes[7..11] != [0, 0, 0, 3] {
         all.push("version");
     }
     match plain_answer(&bytes[14..755]) {
@@ -125,7 +125,7 @@ fn count_state(bytes: &[u8], reasons: &[&str], counters: &mut Counters) {
     if bytes.len() < 11_114 {
         return;
     }
-    if let version @ 0..=3 = u32_at(bytes, 7) {
+    if let version @ 0..=4 = u32_at(bytes, 7) {
         counters.met("version of a state", &version.to_string());
     }
     let bias = &bytes[2_663..11_114];

@@ -26,6 +26,8 @@ pub mod random_biases;
 
 pub mod records;
 
+pub mod ratios;
+
 pub mod thermometers;
 
 pub mod counts;

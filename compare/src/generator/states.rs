@@ -100,7 +100,7 @@ impl StateValues {
     pub fn encode(&self) -> Vec<u8> {
         let mut bytes = vec![0x30, 0, 8];
         bytes.extend(*b"SNDR");
-        bytes.extend([0, 0, 0, 2]);
+        bytes.extend([0, 0, 0, 3]);
         bytes.extend([0x31, 0x02, 0xe5]);
         bytes.extend(&self.table);
         bytes.extend([0x32, 0, 5]);
@@ -406,11 +406,11 @@ pub fn state_neighbours(seed: u64) -> Vec<Neighbour> {
         }
     }
     for front in [
-        *b"RDNS\0\0\0\x02",
+        *b"RDNS\0\0\0\x03",
         *b"SNDR\0\0\0\0",
         *b"SNDR\0\0\0\x01",
-        *b"SNDR\0\0\0\x03",
-        *b"SNDR\x02\0\0\0",
+        *b"SNDR\0\0\0\x02",
+        *b"SNDR\x03\0\0\0",
     ] {
         let mut bytes = right.clone();
         bytes[3..11].copy_from_slice(&front);

@@ -2,6 +2,7 @@
 
 use super::random::{to_u16, Random};
 use super::random_tables::random_table;
+use super::ratios::{ratio, Mistake, MISTAKES};
 use super::tables::{TableValues, ThermometerValues};
 use crate::second::rounding::floor;
 use crate::second::thermometer::{
@@ -88,7 +89,7 @@ pub fn t_of_count(
 }
 
 /// A count at an edge: at the offset or beside it, at the last or first count of either end of
-/// the range of t, or at an end of 16 bits.
+/// the range of t, at the first count from 0 °C on, or at an end of 16 bits.
 fn edge_count(
     random: &mut Random,
     table: &TableValues,
@@ -101,11 +102,12 @@ fn edge_count(
     let coefficients = coefficients_of(thermometer);
     let (own, other) = (table.pam_resistance as i128, thermometer.resistance as i128);
     let reaching = |m: i128| count_reaching(m, own, other, pam, offset);
-    let count = match random.below(5) {
+    let count = match random.below(6) {
         0 => offset as i128 + beside,
         1 => pam as i128 + beside,
         2 => reaching(resistance_ratio(LOWEST_T, &coefficients)) + beside,
         3 => reaching(resistance_ratio(HIGHEST_T, &coefficients) + 1) - 1 + beside,
+        4 => reaching(resistance_ratio(0, &coefficients)) + beside,
         _ => random.pick(&[0, 65_535]),
     };
     to_u16(count)
@@ -157,7 +159,9 @@ pub fn thermometer_input(seed: u64) -> ThermometerInput {
             let m = resistance_ratio(t, &input.coefficients()) - random.between(0, 1) as i128;
             aim_at_m(&mut random, &mut input, m);
         }
-        10 => aim_at_a_floor(&mut random, &mut input),
+        10 | 11 => aim_at_a_mistake(&mut random, &mut input),
+        12 => aim_beside_an_end(&mut random, &mut input),
+        13 => aim_around_zero(&mut random, &mut input),
         _ => {}
     }
     if random.once_in(5) {
@@ -236,39 +240,65 @@ fn aim_at_m(random: &mut Random, input: &mut ThermometerInput, m: i128) {
     }
 }
 
-/// F(t) with one of its divisions cut towards zero: of s1, y, h, s2 or alpha.
-fn ratio_with_a_cut(t: i128, coefficients: &Coefficients, cut: usize) -> i128 {
-    let divide = |which: usize, a: i128, b: i128| {
-        if which == cut {
-            a / b
-        } else {
-            floor(a, b)
-        }
-    };
-    let q = t * (t - 409_600);
-    let s1 = divide(0, coefficients.delta * q, 160_000_000_000);
-    let y = divide(1, q, 10_000);
-    let h = divide(2, y * floor(t * t, 10_000), 1 << 24);
-    let s2 = divide(3, coefficients.beta * h, 16_000_000);
-    (1 << 24) + divide(4, coefficients.alpha * (256 * t - s1 - s2), 62_500_000)
+/// Aims M where F(t) is at most M and F(t) with a mistake is not, or the other way round, and says
+/// whether there is such an M.
+fn aim_between(
+    random: &mut Random,
+    input: &mut ThermometerInput,
+    t: i128,
+    mistake: Mistake,
+) -> bool {
+    let coefficients = input.coefficients();
+    let own = ratio(t, &coefficients, None);
+    let mistaken = ratio(t, &coefficients, Some(mistake));
+    if own == mistaken {
+        return false;
+    }
+    let (least, greatest) = (own.min(mistaken), own.max(mistaken) - 1);
+    let any = random.between(least as i64, greatest as i64) as i128;
+    let m = random.pick(&[least, greatest, any]);
+    aim_at_m(random, input, m);
+    true
 }
 
-/// Looks for a t at which F with a cut is not F, and aims M between the two.
-fn aim_at_a_floor(random: &mut Random, input: &mut ThermometerInput) {
-    let cut = random.below(5);
-    input.beta = random.pick(&[500_000, 499_999, 311_111]);
-    let coefficients = input.coefficients();
+/// Looks for an alpha and a t at which F with a mistake is not F, and aims M between the two.
+fn aim_at_a_mistake(random: &mut Random, input: &mut ThermometerInput) {
+    let mistake = random.pick(&MISTAKES);
+    input.beta = 500_000;
+    if input.delta == 0 {
+        // s1 would be 0 for every t.
+        input.delta = random.pick(&[1, 1_500_000, 2_000_000]);
+    }
+    let (low, high) = mistake.some_range(random);
     for _ in 0..5_000 {
-        let lowest = if cut == 4 { -245_760 } else { 1 };
-        let t = random.between(lowest, 245_760) as i128;
-        let own = resistance_ratio(t, &coefficients);
-        let with_cut = ratio_with_a_cut(t, &coefficients, cut);
-        if own != with_cut {
-            // At this M the one is still at most M and the other is not.
-            aim_at_m(random, input, own.max(with_cut) - 1);
+        let t = random.between(low, high) as i128;
+        if aim_between(random, input, t, mistake) {
             return;
         }
+        input.alpha = random.between(3_000_000, 5_000_000) as u32;
     }
+}
+
+/// Aims M between F at an end of the range and F there with a mistake about the fourth-degree term:
+/// above the upper end, which is refused, or at the lower, which is answered.
+fn aim_beside_an_end(random: &mut Random, input: &mut ThermometerInput) {
+    let upper = (HIGHEST_T, Mistake::TermAboveZero);
+    let (t, mistake) = random.pick(&[upper, (LOWEST_T, Mistake::NoTerm)]);
+    input.beta = random.pick(&[500_000, 500_000, 499_999, 311_111]);
+    aim_between(random, input, t, mistake);
+}
+
+/// Aims M at F(-1), F(0) or F(1), at one below F(0) or F(1), or between two of them.
+fn aim_around_zero(random: &mut Random, input: &mut ThermometerInput) {
+    let any_beta = random.between(1, 499_999) as u32;
+    input.beta = random.pick(&[0, 500_000, any_beta]);
+    let coefficients = input.coefficients();
+    let [low, zero, high] = [-1, 0, 1].map(|t| resistance_ratio(t, &coefficients));
+    let below_zero = random.between(low as i64 + 1, zero as i64 - 1) as i128;
+    let above_zero = random.between(zero as i64 + 1, high as i64 - 1) as i128;
+    let places = [low, below_zero, zero - 1, zero, above_zero, high - 1, high];
+    let m = random.pick(&places);
+    aim_at_m(random, input, m);
 }
 
 /// How the thermometers of a list's records are read.
@@ -282,6 +312,47 @@ pub struct ThermometerPlan {
     pub rival_step: u16,
 }
 
+/// The t of KAV and of WG: the same, mostly at or above 0 °C, or each on a side of its own.
+fn target_temperatures(random: &mut Random) -> [i128; 2] {
+    match random.below(8) {
+        0 | 1 => [random.between(-200_000, 200_000) as i128; 2],
+        2 | 3 => [0, 1].map(|_| {
+            let below = random.between(-200_000, -1) as i128;
+            let above = random.between(0, 200_000) as i128;
+            random.pick(&[below, above])
+        }),
+        _ => [random.between(0, 120_000) as i128; 2],
+    }
+}
+
+/// Sets R_PAM and each R0 so that a count at PAM gives t = -1, 0 or 1.
+fn read_around_zero(random: &mut Random, table: &mut TableValues) {
+    table.pam_resistance = 2_000_000;
+    for thermometer in &mut table.thermometers {
+        let t = random.between(-1, 1) as i128;
+        let f = resistance_ratio(t, &coefficients_of(thermometer));
+        // M is R_PAM × 2^24 / R0. The greatest R0 that reaches F(t) does not reach F(t + 1): it moves
+        // M by less than 9 a step, and F rises by 12 or more.
+        thermometer.resistance = floor(2_000_000 << 24, f) as u32;
+    }
+}
+
+/// The counts of a quiet record, and what they need of the table.
+fn quiet_counts(
+    random: &mut Random,
+    table: &mut TableValues,
+    (pam, offset): (u16, u16),
+    calm: bool,
+) -> [u16; 15] {
+    if calm && random.once_in(10) {
+        read_around_zero(random, table);
+        return [pam; 15];
+    }
+    let [kav, wg] = target_temperatures(random);
+    let t = |index: usize| if index < 8 { kav } else { wg };
+    std::array::from_fn(|index| count_near(t(index), table, index, pam, offset))
+}
+
 /// Plans the thermometers of a list and narrows T_low, T_upp and dT of its table to what the
 /// planned counts give, exactly or one unit off.
 pub fn plan_thermometers(random: &mut Random, table: &mut TableValues) -> ThermometerPlan {
@@ -293,11 +364,7 @@ pub fn plan_thermometers(random: &mut Random, table: &mut TableValues) -> Thermo
             thermometer.resistance = table.pam_resistance;
         }
     }
-    let t = match random.below(4) {
-        0 => random.between(-200_000, 200_000) as i128,
-        _ => random.between(0, 120_000) as i128,
-    };
-    let counts = std::array::from_fn(|index| count_near(t, table, index, pam, offset));
+    let counts = quiet_counts(random, table, (pam, offset), calm);
     let rival_step = random.between(1, 40) as u16;
     let plan = ThermometerPlan {
         pam,

@@ -22,7 +22,7 @@ pub const LAYOUT: [(u8, usize); 7] = [
 /// `SNDR` in ASCII.
 pub const MAGIC: u32 = 0x534e_4452;
 
-pub const VERSION: u32 = 2;
+pub const VERSION: u32 = 3;
 
 /// The answer where bytes are no state, or where a state has no room.
 pub const NO_STATE: u8 = 254;
@@ -250,7 +250,7 @@ mod tests {
         assert_eq!(state_size(), LENGTH);
         let state = fresh_bench();
         assert!(layout_is_right(&state, &LAYOUT));
-        assert_eq!(state[..11], *b"\x30\0\x08SNDR\0\0\0\x02");
+        assert_eq!(state[..11], *b"\x30\0\x08SNDR\0\0\0\x03");
         assert_eq!(state[11..14], [0x31, 0x02, 0xe5]);
         assert_eq!(state[14..755], TableValues::bench().encode());
         assert_eq!(state[755..758], [0x32, 0, 5]);

@@ -58,21 +58,37 @@ pub fn measured(reading: &Reading, resistance: i128) -> i128 {
     )
 }
 
+/// q.
+fn quadratic(t: i128) -> i128 {
+    t * (t - 409_600)
+}
+
+/// s2, the fourth-degree term: 0 for t at or above 0.
+///
+/// Below 0 neither q nor t² is negative, so that none of y, w, h and s2 is.
+fn fourth_degree_term(t: i128, beta: i128) -> i128 {
+    if t >= 0 {
+        return 0;
+    }
+    let y = floor(quadratic(t), 10_000);
+    let w = floor(t * t, 10_000);
+    let h = floor(y * w, 1 << 24);
+    floor(beta * h, 16_000_000)
+}
+
 /// F(t).
 ///
 /// q is below 2^38, delta × q below 2^59, y × w below 2^48, alpha × (...) below 2^50.
 ///
-/// F rises strictly. From t to t + 1, 256t rises by 256. s1 changes by less than 13: delta × q
-/// by at most 2,000,000 × 901,119, and a floor adds less than 1. s2 changes by less than 5: y by
-/// less than 92 and w by less than 51 while y is below 2^24 and w below 2^23, so h by less
-/// than 99. What alpha multiplies so rises by more than 238, and F by at least 11.
+/// F rises strictly. From t to t + 1, 256t rises by 256. q falls up to t = 204,800, and with it
+/// s1 falls or stays; from there on q rises by at most 81,919, delta × q by less than 1.03 times
+/// what divides it, and s1 by at most 2. s2 never rises: below 0 q and t² fall, so y, w, h and s2
+/// fall or stay; at -1 w is 0, so s2 is 0 on both sides of 0; and it stays 0 from there on. What
+/// alpha multiplies so rises by at least 254, and F by at least 3,000,000 × 254 / 62,500,000,
+/// floored: 12.
 pub fn resistance_ratio(t: i128, coefficients: &Coefficients) -> i128 {
-    let q = t * (t - 409_600);
-    let s1 = floor(coefficients.delta * q, 160_000_000_000);
-    let y = floor(q, 10_000);
-    let w = floor(t * t, 10_000);
-    let h = floor(y * w, 1 << 24);
-    let s2 = floor(coefficients.beta * h, 16_000_000);
+    let s1 = floor(coefficients.delta * quadratic(t), 160_000_000_000);
+    let s2 = fourth_degree_term(t, coefficients.beta);
     (1 << 24) + floor(coefficients.alpha * (256 * t - s1 - s2), 62_500_000)
 }
 
@@ -160,35 +176,130 @@ mod tests {
         assert_eq!(one_thermometer(&BENCH_READING, &BENCH), Ok(0));
     }
 
+    /// Each of alpha, delta and beta at each end of its range.
+    fn at_their_ends() -> Vec<Coefficients> {
+        let mut all = Vec::new();
+        for alpha in [3_000_000, 5_000_000] {
+            for delta in [0, 2_000_000] {
+                for beta in [0, 500_000] {
+                    all.push(Coefficients {
+                        alpha,
+                        delta,
+                        beta,
+                        ..BENCH
+                    });
+                }
+            }
+        }
+        all
+    }
+
     #[test]
-    fn greatest_t_agrees_with_a_linear_scan() {
-        let ends = [
-            (3_000_000, 0, 0),
-            (3_000_000, 2_000_000, 500_000),
-            (5_000_000, 2_000_000, 500_000),
-            (3_850_000, 1_500_000, 110_000),
+    fn the_fourth_degree_term_is_0_at_and_above_zero() {
+        for beta in [0, 1, 500_000] {
+            // At -1, 0 and 1 w is 0.
+            for t in [-1, 0, 1] {
+                assert_eq!(fourth_degree_term(t, beta), 0, "{t}");
+            }
+            // From 100 on w is above 0 and y below 0, and floors would give -1 or less.
+            for t in 2..=HIGHEST_T {
+                assert_eq!(fourth_degree_term(t, beta), 0, "{t}");
+            }
+        }
+    }
+
+    #[test]
+    fn the_fourth_degree_term_counts_below_zero() {
+        // -5,059: y = 209,775, w = 2,559, h = 536,814,225 / 2^24 floored = 31.
+        // -5,060: y = 209,817, w = 2,560, h = 537,131,520 / 2^24 floored = 32.
+        // -245,760: y = 16,106,127, w = 6,039,797, h = 5,798,204.
+        let rows = [
+            (-5_059, 500_000, 0),
+            (-5_060, 499_999, 0),
+            (-5_060, 500_000, 1),
+            (-245_760, 0, 0),
+            (-245_760, 2, 0),
+            (-245_760, 3, 1),
+            (-245_760, 500_000, 181_193),
         ];
-        for (alpha, delta, beta) in ends {
+        for (t, beta, term) in rows {
+            assert_eq!(fourth_degree_term(t, beta), term, "{t} with {beta}");
+        }
+    }
+
+    #[test]
+    fn f_at_zero_is_the_unit() {
+        for coefficients in at_their_ends() {
+            assert_eq!(resistance_ratio(0, &coefficients), 16_777_216);
+        }
+    }
+
+    #[test]
+    fn beta_counts_nothing_at_and_above_zero() {
+        for coefficients in at_their_ends() {
+            let without = Coefficients {
+                beta: 0,
+                ..coefficients
+            };
+            for t in 0..=HIGHEST_T {
+                let f = resistance_ratio(t, &coefficients);
+                assert_eq!(f, resistance_ratio(t, &without), "{t}");
+            }
+        }
+    }
+
+    #[test]
+    fn f_at_both_ends() {
+        // Worked out in another language, from the words alone.
+        let rows = [
+            (3_000_000, 0, 0, 13_757_317, 19_797_114),
+            (3_000_000, 0, 500_000, 13_748_619, 19_797_114),
+            (3_000_000, 2_000_000, 0, 13_660_680, 19_821_274),
+            (3_000_000, 2_000_000, 500_000, 13_651_983, 19_821_274),
+            (5_000_000, 0, 0, 11_744_051, 21_810_380),
+            (5_000_000, 0, 500_000, 11_729_555, 21_810_380),
+            (5_000_000, 2_000_000, 0, 11_582_990, 21_850_646),
+            (5_000_000, 2_000_000, 500_000, 11_568_494, 21_850_646),
+            (3_850_000, 1_500_000, 110_000, 12_806_210, 20_676_006),
+        ];
+        for (alpha, delta, beta, lowest, highest) in rows {
             let coefficients = Coefficients {
-                resistance: 2_000_000,
                 alpha,
                 delta,
                 beta,
+                ..BENCH
             };
+            assert_eq!(resistance_ratio(LOWEST_T, &coefficients), lowest);
+            assert_eq!(resistance_ratio(HIGHEST_T, &coefficients), highest);
+        }
+    }
+
+    #[test]
+    fn greatest_t_agrees_with_a_linear_scan() {
+        let between = Coefficients {
+            beta: 110_000,
+            ..BENCH
+        };
+        for coefficients in [at_their_ends(), vec![between]].concat() {
             let all: Vec<i128> = (LOWEST_T..=HIGHEST_T)
                 .map(|t| resistance_ratio(t, &coefficients))
                 .collect();
-            for pair in all.windows(2) {
-                assert!(pair[1] >= pair[0] + 11, "F rises by at least 11");
+            let rises = all.windows(2).map(|pair| pair[1] - pair[0]);
+            let least = rises.min().unwrap();
+            if coefficients.alpha == 3_000_000 {
+                assert_eq!(least, 12, "the least rise of F");
             }
+            assert!(least >= 12, "F rises by at least 12");
             let (lowest, highest) = (all[0], all[all.len() - 1]);
             let step = (highest - lowest) / 50;
-            for index in 0..50 {
-                for near in [-1, 0, 1] {
-                    let m = (lowest + index * step + near).clamp(lowest, highest);
-                    let at_most = all.iter().take_while(|f| **f <= m).count() as i128;
-                    assert_eq!(greatest_t(m, &coefficients), LOWEST_T + at_most - 1);
-                }
+            let spread =
+                (0..50).flat_map(|index| [-1, 0, 1].map(|near| lowest + index * step + near));
+            // Every M from one below F(-1) to F(2).
+            let around_zero = all[245_759] - 1..=all[245_762];
+            for m in spread.chain(around_zero) {
+                let m = m.clamp(lowest, highest);
+                let at_most = all.iter().take_while(|f| **f <= m).count() as i128;
+                assert_eq!(greatest_t(m, &coefficients), LOWEST_T + at_most - 1);
             }
             assert_eq!(greatest_t(highest, &coefficients), HIGHEST_T);
             assert_eq!(greatest_t(lowest, &coefficients), LOWEST_T);
@@ -281,6 +392,38 @@ mod tests {
             .unwrap();
         assert!(at(20_000, 0, last).1.is_ok());
         assert_eq!(at(20_000, 0, last + 1).1, Err(10));
+    }
+
+    #[test]
+    fn refusal_10_at_the_ends_of_f_with_and_without_beta() {
+        // M = 512 × count.
+        let at = |beta, count| {
+            let reading = Reading {
+                pam: 32_768,
+                count,
+                ..BENCH_READING
+            };
+            let coefficients = Coefficients {
+                alpha: 3_000_000,
+                delta: 0,
+                beta,
+                ..BENCH
+            };
+            one_thermometer(&reading, &coefficients)
+        };
+        // F(245,760) is 19,797,114 for every beta; with a fourth-degree term above 0 °C it would be
+        // 19,799,289 for the greatest. M is 19,796,992, 19,797,504 and 19,799,040.
+        for beta in [0, 500_000] {
+            assert_eq!(at(beta, 38_666), Ok(245_750));
+            assert_eq!(at(beta, 38_667), Err(10));
+            assert_eq!(at(beta, 38_670), Err(10));
+        }
+        // F(-245,760) is 13,757,317 with beta 0 and 13,748,619 with the greatest. M is 13,752,320,
+        // 13,748,736 and 13,748,224.
+        assert_eq!(at(0, 26_860), Err(10));
+        assert_eq!(at(500_000, 26_860), Ok(-245_462));
+        assert_eq!(at(500_000, 26_853), Ok(-245_751));
+        assert_eq!(at(500_000, 26_852), Err(10));
     }
 
     #[test]

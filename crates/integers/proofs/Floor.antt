@@ -12,7 +12,7 @@ use Rattle.integers.specs.Bounds.{Bounded}
 use Rattle.integers.proofs.Ring.{_:+_, _:-_, _:*_, opp, ring, #, v0, v1, v2, v3, v4, v5}
 use Rattle.integers.proofs.Linear.{order, sum-parts, plus-neg, minus-neg}
 use Rattle.integers.proofs.Naturals.{natural-above}
-use Rattle.integers.proofs.Order.{at-most-antisym, ltZ-true, ltZ-false}
+use Rattle.integers.proofs.Order.{at-most-trans, at-most-antisym, ltZ-true, ltZ-false}
 use Rattle.integers.proofs.Certificate.{_:≤_, _:<_, _:≡_, hyp, tim, _⊕_, _⊗_, le-by, lt-by}
 
 natural-floor-low : (a : ℤ) (m : ℕ) → 0 < m → (pos m *ℤ floor a (pos m)) ≤ℤ a
@@ -44,6 +44,13 @@ floor-bounded a {b} {n} p h = record {
   low = (le-by (a ∷ b ∷ n ∷ (floor a b) ∷ []) ((# 0 :< v1) ∷ (v0 :< v1 :* v3 :+ v1) ∷ (opp (v2 :* v1) :≤ v0) ∷ []) (opp v2) v3 (hyp 0 ⊕ hyp 2 ⊕ hyp 3 ⊕ hyp 0 ⊗ hyp 1) tt p (floor-high a p) (h .low));
   high = (le-by (a ∷ b ∷ n ∷ (floor a b) ∷ []) ((# 0 :< v1) ∷ (v1 :* v3 :≤ v0) ∷ (v0 :≤ v2 :* v1) ∷ []) v3 v2 (hyp 0 ⊕ hyp 1 ⊕ hyp 2 ⊕ hyp 3 ⊕ hyp 0 ⊗ hyp 1) tt p (floor-low a p) (h .high));
 }
+
+-- a floor keeps an order
+pub floor-order : (a c : ℤ) {b : ℤ} → pos 0 <ℤ b → a ≤ℤ c → floor a b ≤ℤ floor c b
+floor-order a c p h = same-floor p (at-most-trans (floor-low a p) h) (floor-high c p)
+
+pub floor-not-negative : (a : ℤ) {b : ℤ} → pos 0 <ℤ b → pos 0 ≤ℤ a → pos 0 ≤ℤ floor a b
+floor-not-negative a {b} p h = (le-by (a ∷ b ∷ (floor a b) ∷ []) ((# 0 :< v1) ∷ (# 0 :≤ v0) ∷ (v0 :< v1 :* v2 :+ v1) ∷ []) (# 0) v2 (hyp 0 ⊕ hyp 2 ⊕ hyp 3 ⊕ hyp 0 ⊗ hyp 1) tt p h (floor-high a p))
 
 -- where a number rises by at most n times the divisor, its floor rises by at most n; n may be below 0
 pub floor-rise : (n from to : ℤ) {b : ℤ} → pos 0 <ℤ b → to ≤ℤ (from +ℤ n *ℤ b) → floor to b ≤ℤ (floor from b +ℤ n)

@@ -23,9 +23,9 @@ use Rattle.calibrator.specs.declared.Calibrator.{Calibrator}
 abbrev pub magic : ℕ
 magic = 0x534E4452
 
--- the version of this layout
+-- the version of this layout, and of the rules by which its values were kept
 abbrev pub version : ℕ
-version = 2
+version = 3
 
 -- how many numbers the window keeps of each side, and of the thermometers
 abbrev pub countsKept : ℕ

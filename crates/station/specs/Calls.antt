@@ -10,9 +10,9 @@ use Rattle.calibrator.specs.declared.Calibrator.{Calibrator}
 use Rattle.calibrator.specs.Feeding.{freshOf}
 use Rattle.feeds.specs.FeedList.{answerAt, buffersAt}
 
--- version 2.0.0
+-- version 3.0.0
 abbrev pub libraryVersion : ℕ
-libraryVersion = 20000
+libraryVersion = 30000
 
 -- t, or what stood there before where there is none
 abbrev pub unitsOr : Result → ℤ → ℤ

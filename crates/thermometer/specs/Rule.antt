@@ -1,8 +1,9 @@
--- Document 01, "Thermometer rule (equations 18, 19)". Every division is a floor; t is in units of °C. The letters are document 01's.
+-- Document 01, "Thermometer rule (equations 18, 19)", with s2 as request W2 has it. Every division is a floor; t is in units of °C. The
+-- letters are document 01's.
 use Prim.Native.Nat.{ℕ, zero, suc}
 use mathlib.Core.Bool.{Bool, cond}
 use lib.IntN.{ℤ, pos, negℤ, _+ℤ_, _-ℤ_, _*ℤ_}
-use lib.Signed.{_≤ℤ_, leZ}
+use lib.Signed.{_≤ℤ_, leZ, ltZ}
 use Rattle.integers.specs.Rounding.{floor}
 
 -- 2^24, at which a ratio of resistances counts as 1
@@ -33,9 +34,9 @@ w t = floor (t *ℤ t) (pos 10000)
 unfoldable pub h : ℤ → ℤ
 h t = floor (y t *ℤ w t) one
 
--- s2 = beta × h / 16,000,000
+-- s2 = beta × h / 16,000,000 for t below 0, and 0 for t at or above 0
 unfoldable pub s2 : ℕ → ℤ → ℤ
-s2 beta t = floor (pos beta *ℤ h t) (pos 16000000)
+s2 beta t = cond (ltZ t (pos 0)) (floor (pos beta *ℤ h t) (pos 16000000)) (pos 0)
 
 -- F(t) = 2^24 + alpha × (256t - s1 - s2) / 62,500,000
 unfoldable pub F : (alpha delta beta : ℕ) → ℤ → ℤ

@@ -4,7 +4,7 @@ ghost use Prim.Native.Nat.{_≤_, _<_};
 ghost use lib.IntN.{pos, _+ℤ_};
 ghost use lib.Signed.{_≤ℤ_};
 ghost use Rattle.integers.specs.Bounds.{Bounded};
-ghost use Rattle.thermometer.specs.Rule.{M, F, answer, lowest, unitsAt, InRange};
+ghost use Rattle.thermometer.specs.Rule.{M, q, s1, s2, F, answer, lowest, unitsAt, InRange};
 ghost use Rattle.thermometer.specs.Steps.{heldBetween, onLine, onChord, nearbyUnits, reachedAt, pastAt, Encloses};
 ghost use Rattle.thermometer.specs.Ranges.{Admissible};
 ghost use Rattle.thermometer.specs.Reading.{resistanceInside, coefficientsInside, resultOf, reading};
@@ -18,17 +18,43 @@ pub enum Reading {
     RatioOutside,
 }
 
+// q, of which both terms are made.
+fn q_at(t: i64) -> i64
+    requires { ⌜ InRange t ⌝ }
+    ensures { λ z. ⌜ z ≡ q t ⌝ }
+{
+    t * (t - 409_600)
+}
+
+// s1, the term with delta.
+fn quadratic_term(delta: u32, t: i64) -> i64
+    requires { ⌜ (delta ≤ 2000000) × InRange t ⌝ }
+    ensures { λ s. ⌜ s ≡ s1 delta t ⌝ }
+{
+    floor_div(delta as i64 * q_at(t), 160_000_000_000)
+}
+
+// s2, the term with beta, which counts below freezing only.
+fn quartic_term(beta: u32, t: i64) -> i64
+    requires { ⌜ (beta ≤ 500000) × InRange t ⌝ }
+    ensures { λ s. ⌜ s ≡ s2 beta t ⌝ }
+{
+    if 0 <= t {
+        return 0;
+    }
+    let y = floor_div(q_at(t), 10_000);
+    let w = floor_div(t * t, 10_000);
+    let h = floor_div(y * w, 16_777_216);
+    floor_div(beta as i64 * h, 16_000_000)
+}
+
 // F(t), 2^24 times the ratio of the resistance at t to R0.
 fn ratio(alpha: u32, delta: u32, beta: u32, t: i64) -> i64
     requires { ⌜ Admissible alpha delta beta × InRange t ⌝ }
     ensures { λ f. ⌜ f ≡ F alpha delta beta t ⌝ }
 {
-    let q = t * (t - 409_600);
-    let s1 = floor_div(delta as i64 * q, 160_000_000_000);
-    let y = floor_div(q, 10_000);
-    let w = floor_div(t * t, 10_000);
-    let h = floor_div(y * w, 16_777_216);
-    let s2 = floor_div(beta as i64 * h, 16_000_000);
+    let s1 = quadratic_term(delta, t);
+    let s2 = quartic_term(beta, t);
     16_777_216 + floor_div(alpha as i64 * (256 * t - s1 - s2), 62_500_000)
 }
 
