@@ -96,8 +96,12 @@ mod tests {
 
     #[test]
     fn without_a_mistake_it_is_f() {
-        for t in (LOWEST_T..=HIGHEST_T).step_by(7) {
-            assert_eq!(ratio(t, &ENDS, None), resistance_ratio(t, &ENDS), "{t}");
+        for beta in [0, 110_000, 500_000] {
+            let coefficients = Coefficients { beta, ..ENDS };
+            for t in LOWEST_T..=HIGHEST_T {
+                let f = resistance_ratio(t, &coefficients);
+                assert_eq!(ratio(t, &coefficients, None), f, "{t}");
+            }
         }
     }
 

@@ -195,14 +195,11 @@ mod tests {
     }
 
     #[test]
-    fn the_fourth_degree_term_is_0_at_and_above_zero() {
+    fn the_fourth_degree_term_is_0_from_minus_1_on() {
         for beta in [0, 1, 500_000] {
-            // At -1, 0 and 1 w is 0.
-            for t in [-1, 0, 1] {
-                assert_eq!(fourth_degree_term(t, beta), 0, "{t}");
-            }
-            // From 100 on w is above 0 and y below 0, and floors would give -1 or less.
-            for t in 2..=HIGHEST_T {
+            // At -1 w is 0. From 100 on w is above 0 and y below it, and with a beta above 0 the floors
+            // would give -1 or less.
+            for t in -1..=HIGHEST_T {
                 assert_eq!(fourth_degree_term(t, beta), 0, "{t}");
             }
         }
@@ -250,7 +247,7 @@ mod tests {
 
     #[test]
     fn f_at_both_ends() {
-        // Worked out in another language, from the words alone.
+        // Each coefficient at its ends, and one set between.
         let rows = [
             (3_000_000, 0, 0, 13_757_317, 19_797_114),
             (3_000_000, 0, 500_000, 13_748_619, 19_797_114),

@@ -1,5 +1,5 @@
 -- F rises with t: by at least 12 a unit, whatever the coefficients in their ranges.
--- From t to t + 1, s1 rises by at most 2 and s2 does not rise: below 0 it falls with q and t², and from 0 on it is 0. So 256t - s1 - s2
+-- From t to t + 1, s1 rises by at most 2 and s2 does not rise: below 0 it falls or stays with q and t², and from 0 on it is 0. So 256t - s1 - s2
 -- rises by at least 254, and alpha is at least 3,000,000.
 use mathlib.Core.Path.{_≡_, refl, sym, ap, subst, _∙_}
 use mathlib.Core.List.{[], _∷_}
@@ -24,7 +24,7 @@ w-not-negative : (t : ℤ) → pos 0 ≤ℤ w t
 unfolding w
 w-not-negative t = floor-not-negative (t *ℤ t) (ltZ-yes tt) (square-not-negative t)
 
--- below 0, q and t² fall, and so does all that is formed of them
+-- below 0, q and t² fall or stay, and so does all that is formed of them
 module _ {t : ℤ} (below : t <ℤ pos 0) where
   q-not-negative : pos 0 ≤ℤ q t
   unfolding q
@@ -64,19 +64,19 @@ module _ {t : ℤ} (below : t <ℤ pos 0) where
   beta-h-falls beta = (le-by ((pos beta) ∷ (h t) ∷ (h (t +ℤ pos 1)) ∷ []) ((# 0 :≤ v0) ∷ (v2 :≤ v1) ∷ []) (v0 :* v2) (v0 :* v1) (hyp 0 ⊕ hyp 1 ⊗ hyp 2) tt (natural-not-negative beta) h-falls)
 
 -- the two tests are whether t, and whether t + 1, is below 0
-falls-by : (beta : ℕ) (t : ℤ) (now after : Bool) → ltZ t (pos 0) ≡ now → ltZ (t +ℤ pos 1) (pos 0) ≡ after
+s2-does-not-rise-by : (beta : ℕ) (t : ℤ) (now after : Bool) → ltZ t (pos 0) ≡ now → ltZ (t +ℤ pos 1) (pos 0) ≡ after
     → cond after (floor (pos beta *ℤ h (t +ℤ pos 1)) (pos 16000000)) (pos 0) ≤ℤ cond now (floor (pos beta *ℤ h t) (pos 16000000)) (pos 0)
-falls-by beta t true true e f =
+s2-does-not-rise-by beta t true true e f =
     floor-order (pos beta *ℤ h (t +ℤ pos 1)) (pos beta *ℤ h t) (ltZ-yes tt) (beta-h-falls (ltZ-true e) beta)
-falls-by beta t true false e f =
+s2-does-not-rise-by beta t true false e f =
     floor-not-negative (pos beta *ℤ h t) (ltZ-yes tt) (product-not-negative (natural-not-negative beta) (h-not-negative (ltZ-true e)))
-falls-by beta t false true e f = absurd (clash-by (t ∷ []) ((# 0 :≤ v0) ∷ (v0 :+ # 1 :< # 0) ∷ []) (hyp 0 ⊕ hyp 1) tt (ltZ-false e) (ltZ-true f))
-falls-by beta t false false e f = ≤ℤ-refl (pos 0)
+s2-does-not-rise-by beta t false true e f = absurd (clash-by (t ∷ []) ((# 0 :≤ v0) ∷ (v0 :+ # 1 :< # 0) ∷ []) (hyp 0 ⊕ hyp 1) tt (ltZ-false e) (ltZ-true f))
+s2-does-not-rise-by beta t false false e f = ≤ℤ-refl (pos 0)
 
 -- across 0 too
-s2-falls : (beta : ℕ) (t : ℤ) → s2 beta (t +ℤ pos 1) ≤ℤ s2 beta t
+s2-does-not-rise : (beta : ℕ) (t : ℤ) → s2 beta (t +ℤ pos 1) ≤ℤ s2 beta t
 unfolding s2
-s2-falls beta t = falls-by beta t (ltZ t (pos 0)) (ltZ (t +ℤ pos 1) (pos 0)) refl refl
+s2-does-not-rise beta t = s2-does-not-rise-by beta t (ltZ t (pos 0)) (ltZ (t +ℤ pos 1) (pos 0)) refl refl
 
 -- ---- from t to t + 1
 module _ (t : ℤ) (next : InRange (t +ℤ pos 1)) where
@@ -92,7 +92,7 @@ module _ (t : ℤ) (next : InRange (t +ℤ pos 1)) where
         (le-by ((pos delta) ∷ (q t) ∷ (q (t +ℤ pos 1)) ∷ []) ((# 0 :≤ v0) ∷ (v0 :≤ # 2000000) ∷ (v2 :≤ v1 :+ # 81919) ∷ []) (v0 :* v2) (v0 :* v1 :+ # 2 :* # 160000000000) (hyp 0 ⊕ nat 81919 ⊗ hyp 2 ⊕ hyp 1 ⊗ hyp 3) tt (natural-not-negative delta) (natural-at-most (admissible .delta-high)) q-rises)
 
     bracket-rises : (bracket delta beta t +ℤ pos 254) ≤ℤ bracket delta beta (t +ℤ pos 1)
-    bracket-rises = (le-by (t ∷ (s1 delta t) ∷ (s2 beta t) ∷ (s1 delta (t +ℤ pos 1)) ∷ (s2 beta (t +ℤ pos 1)) ∷ []) ((v3 :≤ v1 :+ # 2) ∷ (v4 :≤ v2) ∷ []) (# 256 :* v0 :- v1 :- v2 :+ # 254) (# 256 :* (v0 :+ # 1) :- v3 :- v4) (hyp 0 ⊕ hyp 1 ⊕ hyp 2) tt s1-rises (s2-falls beta t))
+    bracket-rises = (le-by (t ∷ (s1 delta t) ∷ (s2 beta t) ∷ (s1 delta (t +ℤ pos 1)) ∷ (s2 beta (t +ℤ pos 1)) ∷ []) ((v3 :≤ v1 :+ # 2) ∷ (v4 :≤ v2) ∷ []) (# 256 :* v0 :- v1 :- v2 :+ # 254) (# 256 :* (v0 :+ # 1) :- v3 :- v4) (hyp 0 ⊕ hyp 1 ⊕ hyp 2) tt s1-rises (s2-does-not-rise beta t))
 
     pub rises-by-twelve : (F alpha delta beta t +ℤ pos 12) ≤ℤ F alpha delta beta (t +ℤ pos 1)
     unfolding F

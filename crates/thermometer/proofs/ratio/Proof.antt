@@ -31,22 +31,22 @@ module _ (s : tie.Start) where
 
 -- ---- what each call gives
 -- the function's entry, from the place after each call
-abbrev entry2 : tie.After-quartic-term → tie.Start
-entry2 c = c .before .before
+abbrev entry : tie.After-quartic-term → tie.Start
+entry c = c .before .before
 
-abbrev entry3 : tie.After-floor-div → tie.Start
-entry3 c = entry2 (c .before)
+abbrev entry1 : tie.After-floor-div → tie.Start
+entry1 c = entry (c .before)
 
 reads-s1 : (c : tie.After-quadratic-term) → toZ w64 (ofZ w64 (c .quadratic-term .result)) ≡ s1 (c .before .args .delta) (c .before .args .t)
 reads-s1 c =
     result-reads-back (c .quadratic-term .result) (c .quadratic-term .ok) ∙ rw (reads-t (c .before)) at (c .quadratic-term .ensures)
 
-reads-s2 : (c : tie.After-quartic-term) → toZ w64 (ofZ w64 (c .quartic-term .result)) ≡ s2 (entry2 c .args .beta) (entry2 c .args .t)
-reads-s2 c = result-reads-back (c .quartic-term .result) (c .quartic-term .ok) ∙ rw (reads-t (entry2 c)) at (c .quartic-term .ensures)
+reads-s2 : (c : tie.After-quartic-term) → toZ w64 (ofZ w64 (c .quartic-term .result)) ≡ s2 (entry c .args .beta) (entry c .args .t)
+reads-s2 c = result-reads-back (c .quartic-term .result) (c .quartic-term .ok) ∙ rw (reads-t (entry c)) at (c .quartic-term .ensures)
 
-reads-last : (c : tie.After-floor-div) → toZ w64 (ofZ w64 (c .floor-div .result)) ≡ floor (pos (entry3 c .args .alpha) *ℤ bracket (entry3 c .args .delta) (entry3 c .args .beta) (entry3 c .args .t)) (pos 62500000)
+reads-last : (c : tie.After-floor-div) → toZ w64 (ofZ w64 (c .floor-div .result)) ≡ floor (pos (entry1 c .args .alpha) *ℤ bracket (entry1 c .args .delta) (entry1 c .args .beta) (entry1 c .args .t)) (pos 62500000)
 reads-last c =
-    let s = entry3 c in
+    let s = entry1 c in
     let b = c .before in
     result-reads-back (c .floor-div .result) (c .floor-div .ok)
     ∙ rw (reads-alpha s, reads-t s, reads-256t s, reads-s1 (b .before), reads-256t-less-s1 s, reads-s2 b, reads-bracket s, reads-back (alpha-bracket-fits (s .pre .1) (s .pre .0))) at (c .floor-div .ensures)
@@ -62,21 +62,21 @@ cast-floor-div : tie.Need-cast-floor-div
 cast-floor-div c = search needs
 
 mul-floor-div : tie.Need-mul-floor-div
-mul-floor-div c = rw (reads-t (entry2 c)) (256t-fits (entry2 c .pre .1))
+mul-floor-div c = rw (reads-t (entry c)) (256t-fits (entry c .pre .1))
 
 sub-floor-div : tie.Need-sub-floor-div
 sub-floor-div c =
-    let s = entry2 c in
+    let s = entry c in
     rw (reads-t s, reads-256t s, reads-s1 (c .before)) (256t-less-s1-fits (s .pre .1) (s .pre .0))
 
 sub-floor-div-2 : tie.Need-sub-floor-div-2
 sub-floor-div-2 c =
-    let s = entry2 c in
+    let s = entry c in
     rw (reads-t s, reads-256t s, reads-s1 (c .before), reads-256t-less-s1 s, reads-s2 c) (bracket-fits (s .pre .1) (s .pre .0))
 
 mul-floor-div-2 : tie.Need-mul-floor-div-2
 mul-floor-div-2 c =
-    let s = entry2 c in
+    let s = entry c in
     rw (reads-t s, reads-alpha s, reads-256t s, reads-s1 (c .before), reads-256t-less-s1 s, reads-s2 c, reads-bracket s)
     (alpha-bracket-fits (s .pre .1) (s .pre .0))
 
@@ -85,11 +85,11 @@ floor-div-requires c κs = search needs
 
 add-result : tie.Need-add-result
 unfolding F
-add-result c = rw (reads-last c) (F-fits (entry3 c .pre .1) (entry3 c .pre .0))
+add-result c = rw (reads-last c) (F-fits (entry1 c .pre .1) (entry1 c .pre .0))
 
 returns : tie.Need-returns
 unfolding F
-returns c = rw (reads-last c) (reads-back (F-fits (entry3 c .pre .1) (entry3 c .pre .0)))
+returns c = rw (reads-last c) (reads-back (F-fits (entry1 c .pre .1) (entry1 c .pre .0)))
 
 pub ratio-spec : {M : Type 1} → statement M
 ratio-spec =
