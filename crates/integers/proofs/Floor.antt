@@ -45,7 +45,7 @@ floor-bounded a {b} {n} p h = record {
   high = (le-by (a ∷ b ∷ n ∷ (floor a b) ∷ []) ((# 0 :< v1) ∷ (v1 :* v3 :≤ v0) ∷ (v0 :≤ v2 :* v1) ∷ []) v3 v2 (hyp 0 ⊕ hyp 1 ⊕ hyp 2 ⊕ hyp 3 ⊕ hyp 0 ⊗ hyp 1) tt p (floor-low a p) (h .high));
 }
 
--- a floor keeps an order
+-- a floor keeps an order; `floor-rise` has the same with a distance
 pub floor-order : (a c : ℤ) {b : ℤ} → pos 0 <ℤ b → a ≤ℤ c → floor a b ≤ℤ floor c b
 floor-order a c p h = same-floor p (at-most-trans (floor-low a p) h) (floor-high c p)
 

@@ -1,6 +1,6 @@
 -- F rises with t: by at least 12 a unit, whatever the coefficients in their ranges.
--- From t to t + 1, s1 rises by at most 2 and s2 does not rise: below 0 it falls or stays with q and t², and from 0 on it is 0. So 256t - s1 - s2
--- rises by at least 254, and alpha is at least 3,000,000.
+-- From t to t + 1, s1 rises by at most 2 and s2 does not rise: below 0 it falls or stays with q and t², and from 0 on it is 0. So
+-- 256t - s1 - s2 rises by at least 254, and alpha is at least 3,000,000.
 use mathlib.Core.Path.{_≡_, refl, sym, ap, subst, _∙_}
 use mathlib.Core.List.{[], _∷_}
 use mathlib.Core.Bool.{Bool, true, false, cond}
