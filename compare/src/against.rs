@@ -14,6 +14,7 @@ use crate::check::lists::checked_outcomes;
 use crate::check::numbers::checked_division;
 use crate::check::outcomes::{outcomes, Outcome};
 use crate::check::samples::{count_samples, kept};
+use crate::check::six_numbers::{other_scenes, same_scenes, same_scenes_of_every_count};
 use crate::check::states::{
     checked_fresh, checked_state_feed, checked_state_run, outcome_of, probe, run_through_states,
     same_run, StateFunctions, StateOutcome,
@@ -387,6 +388,37 @@ where
     same_run(&other, &at_once(&list))
 }
 
+/// Channels with the same six numbers, in two lists: the same scenes of counts at the edges.
+pub fn six_numbers(
+    seed: u64,
+    other: impl Fn(&FeedList) -> Vec<Outcome>,
+    counters: &mut Counters,
+) -> Result<(), String> {
+    same_scenes(seed, other, counters)
+}
+
+/// The same of every count, through states.
+pub fn every_count<F, G>(
+    seed: u64,
+    functions: &StateFunctions<F, G>,
+    counters: &mut Counters,
+) -> Result<(), String>
+where
+    F: Fn(&[u8], &[u8], &mut [u8]) -> u8,
+    G: Fn(&mut [u8], &[u8], &mut [u8]) -> u8,
+{
+    same_scenes_of_every_count(seed, functions, counters)
+}
+
+/// Channels that differ in one of the six numbers: some count has another scene.
+pub fn one_number(
+    seed: u64,
+    other: impl Fn(&FeedList) -> Vec<Outcome>,
+    counters: &mut Counters,
+) -> Result<(), String> {
+    other_scenes(seed, other, counters)
+}
+
 #[cfg(test)]
 mod tests {
     use super::*;
@@ -395,12 +427,19 @@ mod tests {
     use crate::second::acceptance::thermometer_reading;
     use crate::second::bias::open_bias;
     use crate::second::listing::listing;
+    use crate::second::product::{flag_of, scene_of};
     use crate::second::rounding::r;
+    use crate::second::scene::{numerator, rounded_share};
     use crate::second::state;
     use crate::second::station::feed_all;
+    use crate::second::table::Table;
     use crate::second::thermometer::{
         measured, one_thermometer, Coefficients, Reading, HIGHEST_T, KELVIN_OF_ZERO_CELSIUS,
         LOWEST_T,
+    };
+    use crate::second::window::{
+        channel_sums, cold_temperature, unrounded_warm_temperature, warm_temperature, window,
+        ChannelSums,
     };
 
     /// Whether a comparison fails at one of the first seeds.
@@ -927,5 +966,126 @@ mod tests {
             |seed, counters| state_runs(seed, &right, no_product, counters),
             2
         ));
+    }
+
+    /// What a list leaves where each delivered scene of its last feed is made anew of the channel's sums and
+    /// the count.
+    fn with_last_scenes(
+        list: &FeedList,
+        scene: impl Fn(&Table, usize, &ChannelSums, u16) -> i128,
+    ) -> Vec<Outcome> {
+        let mut all = outcomes(list);
+        let table = open(&list.table).unwrap();
+        let mut roll: Vec<ScanRecord> = Vec::new();
+        for feed in &list.feeds {
+            roll.extend(judge(&roll, &feed.record, feed.buffer.len()));
+        }
+        let window = window(&table, &roll);
+        let (record, product) = (&roll[roll.len() - 1], &mut all.last_mut().unwrap().buffer);
+        for channel in 0..22 {
+            assert_eq!(flag_of(product, channel), 0);
+            let sums = channel_sums(&table, &window, channel);
+            for (position, count) in record.earth_counts(channel).into_iter().enumerate() {
+                if scene_of(product, channel, position) > 0.0 {
+                    let at = 35 + 4 * (96 * channel + position);
+                    let kelvin = scene(&table, channel, &sums, count) as f32 / 4096.0;
+                    product[at..at + 4].copy_from_slice(&kelvin.to_be_bytes());
+                }
+            }
+        }
+        all
+    }
+
+    /// T of N and D, with a Tw that is a fraction in the linear term.
+    fn temperature_by(
+        table: &Table,
+        channel: usize,
+        (n, d): (i128, i128),
+        tw: (i128, i128),
+    ) -> i128 {
+        let tc = cold_temperature(table, channel);
+        let x = rounded_share(n, d);
+        let tnl = table.channels[channel].peak_nonlinearity;
+        tc + r(n * (tw.0 - tc * tw.1), d * tw.1) + r(4 * x * (65_536 - x) * tnl, 1 << 32)
+    }
+
+    #[test]
+    fn six_numbers_differ_where_a_scene_takes_more_from_its_channel() {
+        type SceneOf = fn(&Table, usize, &ChannelSums, u16) -> i128;
+        let right: SceneOf = |table, channel, sums, count| {
+            let nd = (numerator(sums, count), sums.difference());
+            let tw = warm_temperature(table, channel, sums);
+            temperature_by(table, channel, nd, (tw, 1))
+        };
+        // Tw is not rounded, though the six numbers have it rounded.
+        let unrounded: SceneOf = |table, channel, sums, count| {
+            let nd = (numerator(sums, count), sums.difference());
+            let tw = unrounded_warm_temperature(table, channel, sums);
+            temperature_by(table, channel, nd, (tw.numerator, tw.denominator))
+        };
+        // WG has a unit more.
+        let of_target: SceneOf = |table, channel, sums, count| {
+            let nd = (numerator(sums, count), sums.difference());
+            let tw = warm_temperature(table, channel, sums);
+            i128::from(channel >= 15) + temperature_by(table, channel, nd, (tw, 1))
+        };
+        for (scene, is_wrong) in [(right, false), (unrounded, true), (of_target, true)] {
+            let other = |list: &FeedList| with_last_scenes(list, scene);
+            let found = finds(|seed, counters| six_numbers(seed, other, counters), 6);
+            assert_eq!(found, is_wrong);
+        }
+    }
+
+    #[test]
+    fn every_count_differs_where_one_channel_has_another_word_of_one_count() {
+        let wrong = StateFunctions {
+            fresh: state::fresh,
+            feed: |memory: &mut [u8], record: &[u8], buffer: &mut [u8]| {
+                let answer = state::feed(memory, record, buffer);
+                // Count 300 is at position 13 behind 288.
+                if answer == 0 && record[405..407] == 288_u16.to_be_bytes() {
+                    buffer[35 + 4 * (96 * 21 + 12) + 3] ^= 1;
+                }
+                answer
+            },
+        };
+        let compared = every_count(3, &wrong, &mut Counters::new());
+        assert!(compared.unwrap_err().starts_with("channel 22, count 300: "));
+    }
+
+    #[test]
+    fn one_number_differs_where_a_bit_of_it_is_not_looked_at() {
+        assert!(!finds(
+            |seed, counters| one_number(seed, outcomes, counters),
+            1
+        ));
+        // The last bit of rj, b and TNL, each in all channels.
+        for place in [15, 13, 19] {
+            let wrong = |list: &FeedList| {
+                let mut other = list.clone();
+                for row in other.table[301..741].chunks_mut(20) {
+                    row[place] &= 0xfe;
+                }
+                outcomes(&other)
+            };
+            let found = finds(|seed, counters| one_number(seed, wrong, counters), 1);
+            assert!(found, "byte {place}");
+        }
+        // The last bit of D, of Wc × Ww and of Ac × Ww.
+        for place in 0..3 {
+            let scene = |table: &Table, channel: usize, sums: &ChannelSums, count: u16| {
+                let (warm, cold) = (&sums.warm, &sums.cold);
+                let (weights, base) = (cold.weight * warm.weight, cold.value * warm.weight);
+                let mut numbers = [sums.difference(), weights, base];
+                numbers[place] &= !1;
+                let [d, weights, base] = numbers;
+                let tw = warm_temperature(table, channel, sums);
+                let n = 12 * weights * count as i128 - base;
+                temperature_by(table, channel, (n, d), (tw, 1))
+            };
+            let wrong = |list: &FeedList| with_last_scenes(list, scene);
+            let found = finds(|seed, counters| one_number(seed, wrong, counters), 1);
+            assert!(found, "number {place}");
+        }
     }
 }

@@ -499,7 +499,7 @@ fn calibrate(input: &ListingInput) -> (Vec<u8>, String) {
 }
 
 /// The comparisons by the name that `--case` takes, and how many cases of each are run for a thousand.
-pub const KINDS: [(&str, Check, u64); 23] = [
+pub const KINDS: [(&str, Check, u64); 26] = [
     (
         "floor_div",
         |seed, counters| against::divisions(seed, floor_div, counters),
@@ -595,15 +595,36 @@ pub const KINDS: [(&str, Check, u64); 23] = [
         1,
     ),
     ("state_run", state_run, 10),
+    (
+        "six_numbers",
+        |seed, counters| against::six_numbers(seed, outcomes_at_once, counters),
+        20,
+    ),
+    (
+        "every_count",
+        |seed, counters| against::every_count(seed, &state_functions(), counters),
+        3,
+    ),
+    (
+        "one_number",
+        |seed, counters| against::one_number(seed, outcomes_at_once, counters),
+        2,
+    ),
 ];
+
+type Fresh = fn(&[u8], &[u8], &mut [u8]) -> u8;
+type FeedState = fn(&mut [u8], &[u8], &mut [u8]) -> u8;
+
+fn state_functions() -> StateFunctions<Fresh, FeedState> {
+    StateFunctions {
+        fresh: guarded_fresh,
+        feed: guarded_feed,
+    }
+}
 
 /// A list through states, and in one call.
 fn state_run(seed: u64, counters: &mut Counters) -> Result<(), String> {
-    let functions = StateFunctions {
-        fresh: guarded_fresh,
-        feed: guarded_feed,
-    };
-    against::state_runs(seed, &functions, outcomes_at_once, counters)
+    against::state_runs(seed, &state_functions(), outcomes_at_once, counters)
 }
 
 /// Runs the cases `first`, `first + step` and so on of a kind, and counts what they met.

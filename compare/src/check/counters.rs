@@ -346,6 +346,58 @@ pub const CLASSES: &[(&str, &[&str])] = &[
         ],
     ),
     ("feeds through states", &["compared"]),
+    (
+        "channels with the same six numbers",
+        &[
+            "one feed",
+            "two lists",
+            "channels of one target",
+            "KAV and WG",
+            "other Ww and Wc",
+            "other scan values",
+            "other rejected counts",
+            "other rejected thermometers",
+            "other rj and sl",
+            "other b and thermometers",
+            "other count weights",
+            "other thermometer weights",
+            "other percentages",
+            "other limits",
+            "other scan number",
+            "other missing numbers",
+            "other number of records",
+            "every count compared",
+        ],
+    ),
+    (
+        "six numbers",
+        &[
+            "TNL below 0",
+            "TNL 0",
+            "TNL above 0",
+            "D below one count",
+            "D of some counts",
+            "D above 2^32",
+        ],
+    ),
+    (
+        "counts under the same six numbers",
+        &[
+            "0",
+            "65535",
+            "outside below",
+            "one below the first delivered",
+            "first delivered",
+            "delivered",
+            "last delivered",
+            "one above the last delivered",
+            "outside above",
+        ],
+    ),
+    (
+        "one number apart",
+        &["Tc", "Tw - Tc", "TNL", "D", "12 Wc Ww", "Ac Ww"],
+    ),
 ];
 
 #[derive(Clone, Debug, Default)]

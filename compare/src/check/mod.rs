@@ -30,4 +30,6 @@ pub mod listings;
 
 pub mod states;
 
+pub mod six_numbers;
+
 pub mod run;

@@ -8,6 +8,7 @@ use super::counters::Counters;
 use super::listings::check_listing;
 use super::lists::check_list;
 use super::numbers::check_divisions;
+use super::six_numbers::{check_every_count, check_one_number, check_six_numbers};
 use super::states::{
     check_fresh, check_state_bytes, check_state_feed, check_state_neighbours, check_state_run,
 };
@@ -20,7 +21,7 @@ use crate::generator::random::case_seed;
 pub type Check = fn(u64, &mut Counters) -> Result<(), String>;
 
 /// The kinds of cases, by the name that `--case` takes.
-pub const KINDS: [(&str, Check); 15] = [
+pub const KINDS: [(&str, Check); 18] = [
     ("division", check_divisions),
     ("neighbours", check_neighbours),
     ("table", check_table),
@@ -36,6 +37,9 @@ pub const KINDS: [(&str, Check); 15] = [
     ("state_neighbours", check_state_neighbours),
     ("state_bytes", check_state_bytes),
     ("state_run", check_state_run),
+    ("six_numbers", check_six_numbers),
+    ("every_count", check_every_count),
+    ("one_number", check_one_number),
 ];
 
 pub const DEFAULT_SEED: u64 = 20_260_101;
@@ -110,6 +114,9 @@ pub fn run_all(seed: u64, feeds: u64, counters: &mut Counters) -> Result<(), Fai
             "state_neighbours" => feeds / 4_000 + 1,
             "state_bytes" => feeds / 8_000 + 1,
             "state_run" => feeds / 100 + 1,
+            "six_numbers" => feeds / 100 + 1,
+            "every_count" => feeds / 2_000 + 1,
+            "one_number" => feeds / 1_000 + 1,
             _ => u64::MAX,
         };
         for index in 0..cases {

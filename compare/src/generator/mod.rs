@@ -45,3 +45,9 @@ pub mod listings;
 pub mod laid_out;
 
 pub mod states;
+
+pub mod weighted_sides;
+
+pub mod aimed_windows;
+
+pub mod six_numbers;

@@ -25,14 +25,14 @@ abbrev tOf : ℤ → ℤ
 tOf n = temperature (pos 11166) (pos 1107656) (pos 400) (pos 120000) n
 
 -- Tc, and Tw - Tc, of what a channel is corrected by
-abbrev tcOf : Corrections → ℤ
+abbrev pub tcOf : Corrections → ℤ
 tcOf k = pos (11166 + k .rj + k .sl)
 
-abbrev riseOf : Means → Corrections → ℤ
+abbrev pub riseOf : Means → Corrections → ℤ
 riseOf m k = r (pos (m .weighted)) (pos (m .weights)) +ℤ k .b -ℤ tcOf k
 
 -- Tw is the same for both targets
-rise-of-target : (target : Target) → riseOf (benchMeans target) benchRow ≡ pos 1107656
+pub rise-of-target : (target : Target) → riseOf (benchMeans target) benchRow ≡ pos 1107656
 unfolding r floor
 rise-of-target Kav = refl
 rise-of-target Wg = refl

@@ -1,4 +1,5 @@
--- Concrete lists that meet the hypotheses of demand 3 and show each of its outcomes, so that no statement holds for want of a case.
+-- Concrete lists that meet the hypotheses of demand 3 and of request W3's laws and show each outcome, so that no statement holds for want of a
+-- case.
 use Prim.Native.Nat.{ℕ, _<_, _≤_}
 use native.Mathlib.Nat.{le-refl}
 use native.Mathlib.Omega.{arith}
@@ -6,7 +7,8 @@ use mathlib.Core.Path.{_≡_, refl, sym, ap, ap₂, subst, _∙_}
 use mathlib.Core.List.{List, [], _∷_}
 use mathlib.Core.Bool.{true, false}
 use lib.ListN.{length, getD, replicate, length-replicate}
-use lib.IntN.{ℤ, pos}
+use lib.Dec.{lit<}
+use lib.IntN.{ℤ, pos, _*ℤ_}
 use borrow.Author.Tests.{le-leb}
 use Rattle.integers.specs.Fractions.{whole, Equal}
 use Rattle.integers.specs.Rounding.{floor, r}
@@ -15,7 +17,10 @@ use Rattle.lists.specs.Count.{count}
 use Rattle.lists.specs.Sum.{sum}
 use Rattle.lists.specs.Tests.{Verdict, passes, fails}
 use Rattle.fields.specs.Fields.{fieldIsRight, layoutIsRight}
-use Rattle.instrument.specs.Instrument.{channels, positions}
+use Rattle.instrument.specs.declared.Target.{Target}
+use Rattle.instrument.specs.declared.Target.the-variants.{Kav, Wg}
+use Rattle.instrument.specs.Instrument.{channels, positions, targetOf}
+use Rattle.table.specs.declared.Corrections.{Corrections}
 use Rattle.record.specs.Record.{scanNumber, recordSize}
 use Rattle.samples.specs.Good.{differs, good, chosenTo}
 use Rattle.bias.specs.Bias.{zeroBias}
@@ -26,8 +31,9 @@ use Rattle.acceptance.specs.Kept.{keptScan}
 use Rattle.scene.specs.declared.Channel.{Channel}
 use Rattle.window.specs.Ages.{noScan, windowOf, shifted, windowAfter}
 use Rattle.window.specs.Sums.{weightSum, valueSum, thermometerWeights, thermometerSum, meansFrom}
-use Rattle.window.specs.Means.{flagOf, stateOf}
-use Rattle.scene.specs.Temperature.{biased}
+use Rattle.window.specs.declared.Means.{Means}
+use Rattle.window.specs.Means.{D, flagOf, stateOf}
+use Rattle.scene.specs.Temperature.{temperature, biased}
 use Rattle.scene.specs.Scene.{kelvin, noConstants, bits, sceneOf, unbiased}
 use Rattle.scene.specs.declared.Scene.the-variants.{Kelvin, Flagged, Outside}
 use Rattle.scene.proofs.Delivered.{within-guard}
@@ -36,20 +42,24 @@ use Rattle.product.proofs.SceneLaws.{InUnitsBy}
 use Rattle.calibrator.specs.declared.Calibrator.{Calibrator}
 use Rattle.calibrator.specs.Refusals.{verdict, Reply, delivered, refused}
 use Rattle.calibrator.specs.Feeding.{Feed, freshOf, verdictIn, stepBy, step}
-use Rattle.promise.specs.Moments.{wordAt, unitsAt, isDelivered}
+use Rattle.promise.specs.Roll.{verdictAt}
+use Rattle.promise.specs.Restart.{rolledBy}
+use Rattle.promise.specs.Moments.{meansAt, wordAt, unitsAt, isDelivered}
 use Rattle.promise.specs.Promise.{front, FeedClaim, Alike, Promise}
+use Rattle.promise.specs.SameScenes.{justT, outsideMark, FedChannel, settingsOfFed, momentOfFed, fedFlag, fedNumbers, fedScene}
 use Rattle.product.specs.Product.{productSize}
-use Rattle.bench.specs.Bench.{benchTable, perChannel, benchScan, benchCalibrator, benchSettings, benchChannel, benchT}
+use Rattle.bench.specs.Bench.{benchTable, perChannel, benchScan, benchCalibrator, benchSettings, benchMoment, benchChannel, benchT}
 use Rattle.bench.specs.Witnesses.{rejectedScan, flaggedScan, zeros, rejectedList, oneOfEach, replies}
 use Rattle.calibrator.proofs.Verdicts.{verdict-length-wrong, verdict-field-wrong, verdict-number-not-above, verdict-buffer-short}
-use Rattle.bench.proofs.BenchScan.{bench-table, samplesAt, samplesWith, samples-are}
+use Rattle.bench.proofs.BenchScan.{bench-table, bench-row, samplesAt, samplesWith, samples-are, benchMeans, bench-means}
 use Rattle.bench.proofs.FirstFeed.{states-by-kept, Gives, first-verdict, first-word, first-reply}
 use Rattle.bench.proofs.BenchFeed.{channels-of-kept, scene-delivered, bench-gives, bench-passes, bench-reply}
-use Rattle.bench.proofs.BenchRows.{rows}
+use Rattle.bench.proofs.BenchRows.{tcOf, riseOf, rise-of-target, rows}
 use Rattle.promise.proofs.Plain.{same-scan-by, alike-accepted-by, alike-refused-by, alike-by, none-alike, same-products-say, each-says}
 use Rattle.promise.proofs.SceneClaims.{bits-delivered}
 use Rattle.promise.proofs.Demand.{demand-three}
 use Rattle.promise.proofs.WithoutBiasLaws.{by-zero-bias}
+use Rattle.promise.proofs.SameScenesLaws.{byNumbers, scene-by-numbers, same-scenes}
 
 -- ---- a buffer with room, as the laws below ask for
 
@@ -256,3 +266,70 @@ module _ (buffer : List ℕ) (room : productSize ≤ length buffer) (c i : ℕ) 
       let claim = each-says (FeedClaim benchSettings zeroBias) [] benchCalibrator feed [] (promise .each) .0 .accepts (first-verdict (bench-gives 15000) buffer room) in
       let delivered-is = ap (λ (deliver : ℕ → Deliver). deliver c i (benchT 15000 c i)) by-zero-bias ∙ rows .H4 c i below inside .1 in
       subst (λ (t : ℤ). Equal (unitsAt (after .outcome .buffer) c i) (whole t)) delivered-is (claim .scenes c i below inside .exact all-delivered)
+
+-- ---- request W3: channels 1 and 16 of the bench scan, by eight thermometers and by seven, agree in the six numbers
+
+abbrev benchNumbers : List ℤ
+benchNumbers = pos 11166 ∷ pos 1107656 ∷ pos 400 ∷ pos 120000 ∷ pos 12 ∷ pos 120000 ∷ []
+
+sums-by-target : (earth : ℕ) → meansAt benchSettings (benchMoment earth) 0 ≡ meansAt benchSettings (benchMoment earth) 15 → ⊥
+sums-by-target earth same =
+    let eight-is-seven : _≡_ {A = ℕ} 8 7 = ap (λ (m : Means). m .weights) (sym (bench-means earth 0 (lit< tt)) ∙ same ∙ bench-means earth 15 (lit< tt)) in
+    omega arith
+
+target-flag-zero : (target : Target) → flagOf benchSettings target (benchMeans target) ≡ 0
+unfolding benchTable flagOf sum
+target-flag-zero Kav = refl
+target-flag-zero Wg = refl
+
+module _ (earth : ℕ) (buffer : List ℕ) (room : productSize ≤ length buffer) where
+  pub fed-passes : verdictAt (rolledBy [] []) (record { scan = benchScan earth; buffer = buffer }) ≡ passes
+  unfolding rolledBy
+  fed-passes = first-verdict (bench-gives earth) buffer room
+
+  abbrev pub fed : (c : ℕ) → c < channels → FedChannel
+  fed c below = record {
+    table = benchTable;
+    tableAccepted = bench-table;
+    before = [];
+    feed = record { scan = benchScan earth; buffer = buffer };
+    feedAccepted = fed-passes;
+    channel = c;
+    isChannel = below;
+  }
+
+  fed-flag-zero : (c : ℕ) (below : c < channels) → fedFlag (fed c below) ≡ 0
+  unfolding rolledBy
+  fed-flag-zero c below = ap (flagOf benchSettings (targetOf c)) (bench-means earth c below) ∙ target-flag-zero (targetOf c)
+
+  fed-numbers-are : (c : ℕ) (below : c < channels) → fedNumbers (fed c below) ≡ benchNumbers
+  unfolding rolledBy
+  fed-numbers-are c below =
+      ap₂ (λ (m : Means) (k : Corrections). tcOf k ∷ riseOf m k ∷ k .tnl ∷ D m ∷ (pos 12 *ℤ pos (m .wc) *ℤ pos (m .ww)) ∷ (pos (m .ac) *ℤ pos (m .ww)) ∷ [])
+      (bench-means earth c below) (bench-row c below)
+      ∙ ap (λ (rise : ℤ). pos 11166 ∷ rise ∷ pos 400 ∷ pos 120000 ∷ pos 12 ∷ pos 120000 ∷ []) (rise-of-target (targetOf c))
+
+  -- though their sums differ
+  pub sums-differ : meansAt (settingsOfFed (fed 0 (lit< tt))) (momentOfFed (fed 0 (lit< tt))) 0 ≡ meansAt (settingsOfFed (fed 15 (lit< tt))) (momentOfFed (fed 15 (lit< tt))) 15 → ⊥
+  unfolding rolledBy
+  sums-differ = sums-by-target earth
+
+  -- so that every count has the same T or the same mark
+  pub both-targets-same : (count : ℕ) → count ≤ 65535 → fedScene (fed 0 (lit< tt)) (pos count) ≡ fedScene (fed 15 (lit< tt)) (pos count)
+  both-targets-same =
+      same-scenes (fed 0 (lit< tt)) (fed 15 (lit< tt)) (fed-flag-zero 0 (lit< tt)) (fed-flag-zero 15 (lit< tt))
+      (fed-numbers-are 0 (lit< tt) ∙ sym (fed-numbers-are 15 (lit< tt)))
+
+  scene-by-bench-numbers : (c : ℕ) (below : c < channels) (count : ℕ) → fedScene (fed c below) (pos count) ≡ byNumbers benchNumbers (pos count)
+  scene-by-bench-numbers c below count =
+      scene-by-numbers (settingsOfFed (fed c below)) (momentOfFed (fed c below)) c (fed-flag-zero c below) (pos count)
+      ∙ ap (λ (numbers : List ℤ). byNumbers numbers (pos count)) (fed-numbers-are c below)
+
+  -- 15,000 has the T of H4, and 9,999 is outside (H6)
+  pub scene-of-h4 : (c : ℕ) (below : c < channels) → fedScene (fed c below) (pos 15000) ≡ justT (pos 565394)
+  unfolding temperature r floor
+  scene-of-h4 c below = scene-by-bench-numbers c below 15000
+
+  pub scene-of-h6 : (c : ℕ) (below : c < channels) → fedScene (fed c below) (pos 9999) ≡ outsideMark
+  unfolding temperature r floor
+  scene-of-h6 c below = scene-by-bench-numbers c below 9999

@@ -113,7 +113,7 @@ benchMoment earth = record { standing = benchScan earth ∷ []; scan = benchScan
 
 module _ (earth c i : ℕ) where
   abbrev pub benchD : ℤ
-  benchD = dAt benchSettings (benchMoment earth) c i
+  benchD = dAt benchSettings (benchMoment earth) c
 
   abbrev pub benchN : ℤ
   benchN = nAt benchSettings (benchMoment earth) c i

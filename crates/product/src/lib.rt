@@ -121,6 +121,7 @@ fn scale_in(channel: Channel) -> Scale
             inverse: 0,
             edge: 0,
             top: 0,
+            curve: 0,
         };
     }
     let k = channel.constants;

@@ -7,3 +7,4 @@ pub mod RestartLaws
 pub mod Demand
 pub mod Plain
 pub mod WithoutBiasLaws
+pub mod SameScenesLaws

@@ -108,11 +108,11 @@ mean-at s m c below =
 
 -- ---- the scene of a channel with this flag and these constants
 module _ (s : Settings) (c : ℕ) (m : Means) where
-  flag-zero-scene : (deliver : ℤ → ℤ) (count : ℕ) → flagOf s (targetOf c) m ≡ 0 → sceneIn deliver (stateOf s c m) count ≡ sceneOf deliver (constantsOf m (s .channel c)) count
+  pub flag-zero-scene : (deliver : ℤ → ℤ) (count : ℕ) → flagOf s (targetOf c) m ≡ 0 → sceneIn deliver (stateOf s c m) count ≡ sceneOf deliver (constantsOf m (s .channel c)) count
   unfolding sceneIn stateOf
   flag-zero-scene deliver count e = rw e
 
-  flagged-scene : (deliver : ℤ → ℤ) (count : ℕ) → eqb (flagOf s (targetOf c) m) 0 ≡ false → sceneIn deliver (stateOf s c m) count ≡ Flagged
+  pub flagged-scene : (deliver : ℤ → ℤ) (count : ℕ) → eqb (flagOf s (targetOf c) m) 0 ≡ false → sceneIn deliver (stateOf s c m) count ≡ Flagged
   unfolding sceneIn stateOf
   flagged-scene deliver count e = rw e
 
@@ -129,10 +129,10 @@ module _ (s : Settings) (m : Moment) (c i : ℕ) where
   abbrev constants : Constants
   constants = constantsOf means (s .channel c)
 
-  abbrev count : ℕ
+  abbrev pub count : ℕ
   count = u16At (earthPart (earthCounts (m .scan)) c) (2 * i)
 
-  n-is-numerator : nAt s m c i ≡ numerator constants count
+  pub n-is-numerator : nAt s m c i ≡ numerator constants count
   unfolding constantsOf
   n-is-numerator = N-is-numerator constants (pos (means .ww)) (pos (means .wc)) (pos (means .ac)) count refl refl
 
@@ -184,7 +184,7 @@ module _ (s : Settings) (m : Moment) (c i : ℕ) where
 
   -- ---- the scene of the count, whatever is delivered for T
   module _ (deliver : ℤ → ℤ) where
-    abbrev scene : Scene
+    abbrev pub scene : Scene
     scene = sceneIn deliver (stateOf s c means) count
 
     -- by the rules it is what is delivered for T
@@ -237,12 +237,12 @@ module _ (s : Settings) (bias : List ℕ) (m : Moment) (c i : ℕ) (range : Sett
   abbrev product : List ℕ
   product = productAt s m (byBias bias) ++ rest
 
-  word-is : wordAt product c i ≡ bits (scene s m c i deliver)
+  pub word-is : wordAt product c i ≡ bits (scene s m c i deliver)
   word-is =
       scene-in-product (byBias bias) (currentNumber m) (channelsAt s m) (earthCounts (m .scan)) rest c below i inside
       ∙ ap (λ (channel : Channel). bits (sceneAt (byBias bias c) channel (earthPart (earthCounts (m .scan)) c) i)) (getD-tabulate (λ c. stateOf s c (meansAt s m c)) channels c noChannel below)
 
-  word-delivered : isDelivered (wordAt product c i) ≡ delivered (scene s m c i deliver)
+  pub word-delivered : isDelivered (wordAt product c i) ≡ delivered (scene s m c i deliver)
   word-delivered = ap isDelivered word-is ∙ bits-delivered deliver (stateOf s c sums) in-units sceneCount
 
   rules : isDelivered (wordAt product c i) ≡ true → ByTheRules s m c i

@@ -5,3 +5,4 @@ pub mod Promise
 pub mod Restart
 pub mod Outcomes
 pub mod WithoutBias
+pub mod SameScenes

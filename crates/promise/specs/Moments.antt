@@ -39,11 +39,21 @@ pub record Moment : Type 0 where
 abbrev pub currentNumber : Moment → ℕ
 currentNumber m = scanNumber (m .scan)
 
--- ---- the product, from the accepted samples of the window and this record's earth counts
+-- ---- what channel c makes of a count, by the accepted samples of the window; and the product, with this record's earth counts
 module _ (s : Settings) (m : Moment) where
   -- the sums of channel c; the window has the standing records with ages 0..7
   abbrev pub meansAt : ℕ → Means
   meansAt c = sumsOf s (λ k. samplesOfAge s (m .standing) (currentNumber m) k) c
+
+  -- D of channel c, and N and T of a count there
+  abbrev pub dAt : ℕ → ℤ
+  dAt c = D (meansAt c)
+
+  abbrev pub nOf : ℕ → ℤ → ℤ
+  nOf c count = let sums = meansAt c in N (pos (sums .ww)) (pos (sums .wc)) (pos (sums .ac)) count
+
+  abbrev pub tOf : ℕ → ℤ → ℤ
+  tOf c count = let channel = s .channel c in temperature (Tc channel) (Tw (meansAt c) channel -ℤ Tc channel) (channel .tnl) (dAt c) (nOf c count)
 
   abbrev pub channelsAt : List Channel
   channelsAt = tabulate (λ c. stateOf s c (meansAt c)) channels
@@ -56,20 +66,17 @@ module _ (s : Settings) (m : Moment) (c i : ℕ) where
   abbrev pub countAt : ℤ
   countAt = pos (u16At (earthPart (earthCounts (m .scan)) c) (2 * i))
 
-  abbrev pub dAt : ℤ
-  dAt = D (meansAt s m c)
-
   abbrev pub nAt : ℤ
-  nAt = let sums = meansAt s m c in N (pos (sums .ww)) (pos (sums .wc)) (pos (sums .ac)) countAt
+  nAt = nOf s m c countAt
 
   abbrev pub tAt : ℤ
-  tAt = let channel = s .channel c in temperature (Tc channel) (Tw (meansAt s m c) channel -ℤ Tc channel) (channel .tnl) dAt nAt
+  tAt = tOf s m c countAt
 
   abbrev pub unroundedTwAt : Fraction
   unroundedTwAt = let sums = meansAt s m c in unroundedTw (pos (sums .weighted)) (pos (sums .weights)) (s .channel c .b)
 
   abbrev pub eAt : Fraction
-  eAt = let channel = s .channel c in E (nAt /ᶠ dAt) unroundedTwAt (whole (Tc channel)) (whole (channel .tnl))
+  eAt = let channel = s .channel c in E (nAt /ᶠ dAt s m c) unroundedTwAt (whole (Tc channel)) (whole (channel .tnl))
 
   -- T by equations 25 to 29, one by one, from the mean counts and the unrounded Tw
   abbrev pub equationsAt : Fraction
@@ -88,9 +95,9 @@ module _ (s : Settings) (m : Moment) (c i : ℕ) where
     pub thermometers : tooFewThermometers s (targetOf c) (meansAt s m c .weights) ≡ false
     pub warm : tooFewCounts s Warm (meansAt s m c .ww) ≡ false
     pub cold : tooFewCounts s Cold (meansAt s m c .wc) ≡ false
-    pub warmAboveCold : pos 0 <ℤ dAt
+    pub warmAboveCold : pos 0 <ℤ dAt s m c
     pub notBelow : pos 0 ≤ℤ nAt
-    pub notAbove : (pos 4 *ℤ nAt) ≤ℤ (pos 5 *ℤ dAt)
+    pub notAbove : (pos 4 *ℤ nAt) ≤ℤ (pos 5 *ℤ dAt s m c)
     pub guardLow : pos 1 ≤ℤ tAt
     pub guardHigh : tAt ≤ℤ pos 16777215
 

@@ -16,7 +16,7 @@ use Rattle.scene.specs.Temperature.{X, temperature, biased}
 use Rattle.scene.specs.Scene.{unbiased}
 use Rattle.scene.proofs.Delivered.{WithinGuard, within-guard}
 use Rattle.scene.proofs.Distance.{SceneRoundings, roundings-of}
-use Rattle.scene.proofs.Ranges.{SceneRange, scene-rise-not-negative, scene-x-bounded, scene-linear-bounded, bend-bounded}
+use Rattle.scene.proofs.Ranges.{SceneRange, scene-rise-not-negative, scene-x-bounded, scene-linear-bounded, bend-bounded, four-tnl-bounded, bend-of-four-tnl}
 
 -- ---- the linear part and the bend, by X
 module _ {tc rise tnl d n x linear bend : ℤ} (s : SceneRoundings tc rise tnl d n x linear bend) (rise-low : pos 825032 ≤ℤ rise)
@@ -73,7 +73,7 @@ module _ {tc rise tnl d n : ℤ} (s : SceneRange tc rise tnl d n) where
       let x = X n d in
       let linear = r (n *ℤ rise) d in
       let bend = r (pos 4 *ℤ x *ℤ (pos 65536 -ℤ x) *ℤ tnl) (pos 4294967296) in
-      (le-by (tc ∷ linear ∷ bend ∷ []) ((v0 :≤ # 43934) ∷ (v1 :≤ # 1696890) ∷ (v2 :≤ # 92160) ∷ []) (v0 :+ v1 :+ v2) (# 1832984) (hyp 0 ⊕ hyp 1 ⊕ hyp 2 ⊕ hyp 3) tt (s .tc-high) (scene-linear-bounded s .high) (bend-bounded (scene-x-bounded s) (s .tnl-bounded) .high))
+      (le-by (tc ∷ linear ∷ bend ∷ []) ((v0 :≤ # 43934) ∷ (v1 :≤ # 1696890) ∷ (v2 :≤ # 92160) ∷ []) (v0 :+ v1 :+ v2) (# 1832984) (hyp 0 ⊕ hyp 1 ⊕ hyp 2 ⊕ hyp 3) tt (s .tc-high) (scene-linear-bounded s .high) (rw (bend-of-four-tnl x tnl) at (bend-bounded (scene-x-bounded s) (four-tnl-bounded (s .tnl-bounded)) .high)))
 
 -- ---- scan bias
 module _ {c0 e t : ℤ} (of-c0 : Bounded c0 (pos 4096)) (of-e : Bounded e (pos 32768)) (low : pos 11166 ≤ℤ t) (high : t ≤ℤ pos 1832984) where

@@ -16,11 +16,13 @@ use Rattle.scene.specs.declared.Constants.{Constants}
 use Rattle.scene.specs.Temperature.{N, temperature}
 use Rattle.scene.specs.Scene.{kelvin, numerator, sceneOf}
 
--- N by document 01's letters, where slope is 12 Wc Ww and base is Ac Ww
+-- N needs two products of its channel, 12 Wc Ww and Ac Ww
+pub N-by-products : (Ww Wc Ac C : ℤ) → N Ww Wc Ac C ≡ pos 12 *ℤ Wc *ℤ Ww *ℤ C -ℤ Ac *ℤ Ww
+N-by-products Ww Wc Ac C = ring (Ww ∷ Wc ∷ Ac ∷ C ∷ []) ((# 12 :* v1 :* v3 :- v2) :* v0) (# 12 :* v1 :* v0 :* v3 :- v2 :* v0) tt
+
+-- where slope is 12 Wc Ww and base is Ac Ww
 pub N-is-numerator : (k : Constants) (Ww Wc Ac : ℤ) (count : ℕ) → k .slope ≡ pos 12 *ℤ Wc *ℤ Ww → k .base ≡ Ac *ℤ Ww → N Ww Wc Ac (pos count) ≡ numerator k count
-N-is-numerator k Ww Wc Ac count s b =
-    (ring (Ww ∷ Wc ∷ Ac ∷ (pos count) ∷ []) ((# 12 :* v1 :* v3 :- v2) :* v0) (# 12 :* v1 :* v0 :* v3 :- v2 :* v0) tt)
-    ∙ ap₂ (λ x y. x *ℤ pos count -ℤ y) (sym s) (sym b)
+N-is-numerator k Ww Wc Ac count s b = N-by-products Ww Wc Ac (pos count) ∙ ap₂ (λ x y. x *ℤ pos count -ℤ y) (sym s) (sym b)
 
 -- T of a count
 abbrev pub temperatureOf : Constants → ℕ → ℤ

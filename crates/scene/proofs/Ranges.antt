@@ -1,6 +1,7 @@
 -- The range of every number on the way to a scene. For a channel's constants N is within 51,136,960,500 at every count; where it is not
 -- negative and 4N is at most 5D, X is within 81,920 and T within 1,832,984. The greatest signed number is N(Tw - Tc), below 10^17, so
 -- each fits.
+use mathlib.Core.Path.{_≡_, ap}
 use mathlib.Core.List.{[], _∷_}
 use Prim.Native.Nat.{ℕ, _≤_}
 use lib.Dec.{lit<}
@@ -10,7 +11,7 @@ use mir.Syntax.{w64}
 use mir.Val.{SFits}
 use Rattle.integers.specs.Rounding.{r}
 use Rattle.integers.specs.Bounds.{Bounded}
-use Rattle.integers.proofs.Ring.{_:+_, _:-_, _:*_, opp, #, v0, v1, v2}
+use Rattle.integers.proofs.Ring.{_:+_, _:-_, _:*_, opp, ring, #, v0, v1, v2}
 use Rattle.integers.proofs.Certificate.{_:≤_, _:<_, hyp, nat, _⊕_, _⊗_, le-by}
 use Rattle.integers.proofs.Bounds.{bounded-sum, bounded-difference, bounded-product, bounded-not-negative, natural-bounded, number-bounded}
 use Rattle.integers.proofs.Machine.{bounded-fits}
@@ -24,28 +25,32 @@ use Rattle.scene.specs.Ranges.{ConstantsRange}
 use Rattle.scene.specs.Steps.{bendOf}
 
 -- ---- the bend
-module _ {x tnl : ℤ} (h : Bounded x (pos 81920)) (k : Bounded tnl (pos 8192)) where
-  pub four-x-bounded : Bounded (pos 4 *ℤ x) (pos 327680)
-  four-x-bounded = bounded-product (number-bounded 4) h
-
+module _ {x curve : ℤ} (h : Bounded x (pos 81920)) (k : Bounded curve (pos 32768)) where
   pub rest-of-x-bounded : Bounded (pos 65536 -ℤ x) (pos 147456)
   rest-of-x-bounded = bounded-difference (number-bounded 65536) h
 
-  pub x-product-bounded : Bounded (pos 4 *ℤ x *ℤ (pos 65536 -ℤ x)) (pos 48318382080)
-  x-product-bounded = bounded-product four-x-bounded rest-of-x-bounded
+  pub x-product-bounded : Bounded (x *ℤ (pos 65536 -ℤ x)) (pos 12079595520)
+  x-product-bounded = bounded-product h rest-of-x-bounded
 
-  pub x-tnl-bounded : Bounded (pos 4 *ℤ x *ℤ (pos 65536 -ℤ x) *ℤ tnl) (pos 395824185999360)
-  x-tnl-bounded = bounded-product x-product-bounded k
+  pub x-curve-bounded : Bounded (x *ℤ (pos 65536 -ℤ x) *ℤ curve) (pos 395824185999360)
+  x-curve-bounded = bounded-product x-product-bounded k
 
   -- 2^20 times 2^32 more than what is rounded
-  pub raised-not-negative : pos 0 ≤ℤ (pos 4 *ℤ x *ℤ (pos 65536 -ℤ x) *ℤ tnl +ℤ pos 4503599627370496)
-  raised-not-negative = (le-by ((pos 4 *ℤ x *ℤ (pos 65536 -ℤ x) *ℤ tnl) ∷ []) ((opp (# 395824185999360) :≤ v0) ∷ []) (# 0) (v0 :+ # 4503599627370496) (hyp 0 ⊕ hyp 1) tt (x-tnl-bounded .low))
+  pub raised-not-negative : pos 0 ≤ℤ (x *ℤ (pos 65536 -ℤ x) *ℤ curve +ℤ pos 4503599627370496)
+  raised-not-negative = (le-by ((x *ℤ (pos 65536 -ℤ x) *ℤ curve) ∷ []) ((opp (# 395824185999360) :≤ v0) ∷ []) (# 0) (v0 :+ # 4503599627370496) (hyp 0 ⊕ hyp 1) tt (x-curve-bounded .low))
 
-  pub raised-bounded : Bounded (pos 4 *ℤ x *ℤ (pos 65536 -ℤ x) *ℤ tnl +ℤ pos 4503599627370496) (pos 4899423813369856)
-  raised-bounded = bounded-sum x-tnl-bounded (number-bounded 4503599627370496)
+  pub raised-bounded : Bounded (x *ℤ (pos 65536 -ℤ x) *ℤ curve +ℤ pos 4503599627370496) (pos 4899423813369856)
+  raised-bounded = bounded-sum x-curve-bounded (number-bounded 4503599627370496)
 
-  pub bend-bounded : Bounded (bendOf x tnl) (pos 92160)
-  bend-bounded = r-bounded (pos 4 *ℤ x *ℤ (pos 65536 -ℤ x) *ℤ tnl) (ltZ-yes tt) x-tnl-bounded
+  pub bend-bounded : Bounded (bendOf x curve) (pos 92160)
+  bend-bounded = r-bounded (x *ℤ (pos 65536 -ℤ x) *ℤ curve) (ltZ-yes tt) x-curve-bounded
+
+pub four-tnl-bounded : {tnl : ℤ} → Bounded tnl (pos 8192) → Bounded (pos 4 *ℤ tnl) (pos 32768)
+four-tnl-bounded h = bounded-product (number-bounded 4) h
+
+-- with 4 TNL formed first it is the bend of document 01's words
+pub bend-of-four-tnl : (x tnl : ℤ) → bendOf x (pos 4 *ℤ tnl) ≡ r (pos 4 *ℤ x *ℤ (pos 65536 -ℤ x) *ℤ tnl) (pos 4294967296)
+bend-of-four-tnl x tnl = ap (λ z. r z (pos 4294967296)) (ring (x ∷ tnl ∷ []) (v0 :* (# 65536 :- v0) :* (# 4 :* v1)) (# 4 :* v0 :* (# 65536 :- v0) :* v1) tt)
 
 -- ---- X and the linear part of a scene that is not outside
 pub record SceneRange (tc rise tnl d n : ℤ) : Type 0 where
@@ -93,6 +98,9 @@ module _ {k : Constants} (h : ConstantsRange k) where
 
   pub tnl-fits : SFits w64 (k .tnl)
   tnl-fits = bounded-fits (h .tnl) (lit< tt)
+
+  pub four-tnl-fits : SFits w64 (pos 4 *ℤ k .tnl)
+  four-tnl-fits = bounded-fits (four-tnl-bounded (h .tnl)) (lit< tt)
 
   pub slope-bounded : Bounded (k .slope) (pos 780300)
   slope-bounded = bounded-not-negative (h .slope-low) (h .slope-high)
@@ -154,5 +162,5 @@ module _ {k : Constants} (h : ConstantsRange k) where
     pub linear-sum-bounded : Bounded (k .tc +ℤ linear) (pos 1740824)
     linear-sum-bounded = bounded-sum tc-bounded of-linear
 
-    pub units-bounded : Bounded (k .tc +ℤ linear +ℤ bendOf x (k .tnl)) (pos 1832984)
-    units-bounded = bounded-sum linear-sum-bounded (bend-bounded of-x (h .tnl))
+    pub units-bounded : Bounded (k .tc +ℤ linear +ℤ bendOf x (pos 4 *ℤ k .tnl)) (pos 1832984)
+    units-bounded = bounded-sum linear-sum-bounded (bend-bounded of-x (four-tnl-bounded (h .tnl)))

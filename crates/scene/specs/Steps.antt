@@ -10,9 +10,9 @@ use Rattle.integers.specs.Bounds.{Bounded}
 use Rattle.scene.specs.declared.Constants.{Constants}
 use Rattle.scene.specs.declared.Scale.{Scale}
 
--- 2^63 / D, cut off; the greatest rest of 2^32 that 33 times the rise does not fill; and the greatest N with 4N at most 5D
+-- 2^63 / D, cut off; the greatest rest of 2^32 that 33 times the rise does not fill; the greatest N with 4N at most 5D; and 4 TNL
 abbrev pub scaleOf : Constants → Scale
-scaleOf k = record { inverse = 9223372036854775808 / natAbs (k .d); edge = 4294967294 - 33 * natAbs (k .rise); top = floor (pos 5 *ℤ k .d) (pos 4) }
+scaleOf k = record { inverse = 9223372036854775808 / natAbs (k .d); edge = 4294967294 - 33 * natAbs (k .rise); top = floor (pos 5 *ℤ k .d) (pos 4); curve = pos 4 *ℤ k .tnl }
 
 -- N / D is from w to w + 33, in 2^32ths
 pub record Bracket (n d : ℤ) (w : ℕ) : Type 0 where
@@ -36,6 +36,6 @@ pub record BiasNumbers (factor offset : ℕ) : Type 0 where
   pub c0 : Bounded (c0Of offset) (pos 4096)
   pub half : offset % 65536 ≡ 32768
 
--- r(4X(65,536 - X) × TNL, 2^32)
-abbrev pub bendOf : (X tnl : ℤ) → ℤ
-bendOf x tnl = r (pos 4 *ℤ x *ℤ (pos 65536 -ℤ x) *ℤ tnl) (pos 4294967296)
+-- r(X(65,536 - X) × 4 TNL, 2^32), where the curve is 4 TNL
+abbrev pub bendOf : (X curve : ℤ) → ℤ
+bendOf x curve = r (x *ℤ (pos 65536 -ℤ x) *ℤ curve) (pos 4294967296)

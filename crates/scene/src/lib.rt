@@ -39,11 +39,12 @@ pub struct Channel {
 }
 
 // What the scenes of a channel share, so that most need no division: 2^63 / D, cut off; the greatest rest of 2^32 that 33 times the rise
-// does not fill; and 5D / 4, cut off, the greatest N that is not outside.
+// does not fill; 5D / 4, cut off, the greatest N that is not outside; and 4 TNL, for the bend.
 pub struct Scale {
     pub inverse: u64,
     pub edge: u32,
     pub top: i64,
+    pub curve: i64,
 }
 
 pub fn scale_of(k: Constants) -> Scale
@@ -53,7 +54,13 @@ pub fn scale_of(k: Constants) -> Scale
     let inverse = 9_223_372_036_854_775_808 / k.d as u64;
     let edge = 4_294_967_294 - 33 * k.rise as u32;
     let top = floor_div(5 * k.d, 4);
-    Scale { inverse, edge, top }
+    let curve = 4 * k.tnl;
+    Scale {
+        inverse,
+        edge,
+        top,
+        curve,
+    }
 }
 
 // N / D lies from here to 33 more, in 2^32ths.
@@ -75,31 +82,31 @@ fn unsure(x: u64, linear: u64, edge: u32) -> bool
     edge < (linear % 4_294_967_296) as u32
 }
 
-// r(4X(65,536 - X) × TNL, 2^32). It is rounded 2^20 higher, where it is never negative: the division is then a shift.
-fn bend(x: i64, tnl: i64) -> i64
-    requires { ⌜ Bounded x (pos 81920) × Bounded tnl (pos 8192) ⌝ }
-    ensures { λ t. ⌜ t ≡ bendOf x tnl ⌝ }
+// r(X(65,536 - X) × 4 TNL, 2^32). It is rounded 2^20 higher, where it is never negative: the division is then a shift.
+fn bend(x: i64, curve: i64) -> i64
+    requires { ⌜ Bounded x (pos 81920) × Bounded curve (pos 32768) ⌝ }
+    ensures { λ t. ⌜ t ≡ bendOf x curve ⌝ }
 {
-    let raised = 4 * x * (65_536 - x) * tnl + 4_503_599_627_370_496;
+    let raised = x * (65_536 - x) * curve + 4_503_599_627_370_496;
     round_natural(raised as u64, 2_147_483_648) as i64 - 1_048_576
 }
 
 // T, in units, of X and the linear part.
-fn units_of(k: Constants, x: i64, linear: i64) -> i64
-    requires { ⌜ ConstantsRange k × Bounded x (pos 81920) × Bounded linear (pos 1696890) ⌝ }
-    ensures { λ t. ⌜ t ≡ k .tc +ℤ linear +ℤ bendOf x (k .tnl) ⌝ }
+fn units_of(k: Constants, curve: i64, x: i64, linear: i64) -> i64
+    requires { ⌜ ConstantsRange k × (curve ≡ pos 4 *ℤ k .tnl) × Bounded x (pos 81920) × Bounded linear (pos 1696890) ⌝ }
+    ensures { λ t. ⌜ t ≡ k .tc +ℤ linear +ℤ bendOf x (pos 4 *ℤ k .tnl) ⌝ }
 {
-    k.tc + linear + bend(x, k.tnl)
+    k.tc + linear + bend(x, curve)
 }
 
 // T by the divisions as they are written.
-fn divided_units(k: Constants, n: i64) -> i64
-    requires { ⌜ ConstantsRange k × (pos 0 ≤ℤ n) × ((pos 4 *ℤ n) ≤ℤ (pos 5 *ℤ k .d)) ⌝ }
+fn divided_units(k: Constants, curve: i64, n: i64) -> i64
+    requires { ⌜ ConstantsRange k × (curve ≡ pos 4 *ℤ k .tnl) × (pos 0 ≤ℤ n) × ((pos 4 *ℤ n) ≤ℤ (pos 5 *ℤ k .d)) ⌝ }
     ensures { λ t. ⌜ t ≡ temperature (k .tc) (k .rise) (k .tnl) (k .d) n ⌝ }
 {
     let x = round_small(65_536 * n, k.d);
     let linear = round_small(n * k.rise, k.d);
-    units_of(k, x, linear)
+    units_of(k, curve, x, linear)
 }
 
 // T by a product in place of each division, where no half lies in the bracket.
@@ -111,9 +118,14 @@ fn units(k: Constants, scale: Scale, n: i64) -> i64
     let x = low + 32_767;
     let linear = low * k.rise as u64 + 2_147_483_647;
     if unsure(x, linear, scale.edge) {
-        return divided_units(k, n);
+        return divided_units(k, scale.curve, n);
     }
-    units_of(k, (x / 65_536) as i64, (linear / 4_294_967_296) as i64)
+    units_of(
+        k,
+        scale.curve,
+        (x / 65_536) as i64,
+        (linear / 4_294_967_296) as i64,
+    )
 }
 
 // What is delivered for T: c0 + r((65,536 + e) × T, 65,536). The factor is 65,536 + e, and the offset has c0 and the half of the rounding.

@@ -15,78 +15,66 @@ use Rattle.integers.proofs.Bounds.{bounded-sum, bounded-size, number-bounded}
 use Rattle.integers.proofs.Machine.{bounded-fits, reads-back, natural-reads-back, unsigned-fits}
 use Rattle.integers.proofs.Nearest.{r-shifted}
 use Rattle.scene.specs.Steps.{bendOf}
-use Rattle.scene.proofs.Ranges.{four-x-bounded, rest-of-x-bounded, x-product-bounded, x-tnl-bounded, raised-not-negative, raised-bounded, bend-bounded}
+use Rattle.scene.proofs.Ranges.{rest-of-x-bounded, x-product-bounded, x-curve-bounded, raised-not-negative, raised-bounded, bend-bounded}
 use Rattle.scene.proofs.bend.Statement.{statement}
 use Rattle.scene.proofs.bend.Tie as tie
 
-module _ {x tnl : ℤ} (h : Bounded x (pos 81920) × Bounded tnl (pos 8192)) where
-  x-fits : SFits w64 x
-  x-fits = bounded-fits (h .0) (lit< tt)
-
-  tnl-fits : SFits w64 tnl
-  tnl-fits = bounded-fits (h .1) (lit< tt)
-
-  four-x-fits : SFits w64 (pos 4 *ℤ x)
-  four-x-fits = bounded-fits (four-x-bounded (h .0) (h .1)) (lit< tt)
-
+module _ {x curve : ℤ} (h : Bounded x (pos 81920) × Bounded curve (pos 32768)) where
   rest-of-x-fits : SFits w64 (pos 65536 -ℤ x)
   rest-of-x-fits = bounded-fits (rest-of-x-bounded (h .0) (h .1)) (lit< tt)
 
-  x-product-fits : SFits w64 (pos 4 *ℤ x *ℤ (pos 65536 -ℤ x))
+  x-product-fits : SFits w64 (x *ℤ (pos 65536 -ℤ x))
   x-product-fits = bounded-fits (x-product-bounded (h .0) (h .1)) (lit< tt)
 
-  x-tnl-fits : SFits w64 (pos 4 *ℤ x *ℤ (pos 65536 -ℤ x) *ℤ tnl)
-  x-tnl-fits = bounded-fits (x-tnl-bounded (h .0) (h .1)) (lit< tt)
+  x-curve-fits : SFits w64 (x *ℤ (pos 65536 -ℤ x) *ℤ curve)
+  x-curve-fits = bounded-fits (x-curve-bounded (h .0) (h .1)) (lit< tt)
 
-  raised-fits : SFits w64 (pos 4 *ℤ x *ℤ (pos 65536 -ℤ x) *ℤ tnl +ℤ pos 4503599627370496)
+  raised-fits : SFits w64 (x *ℤ (pos 65536 -ℤ x) *ℤ curve +ℤ pos 4503599627370496)
   raised-fits = bounded-fits (raised-bounded (h .0) (h .1)) (lit< tt)
 
-  bend-fits : SFits w64 (bendOf x tnl)
+  bend-fits : SFits w64 (bendOf x curve)
   bend-fits = bounded-fits (bend-bounded (h .0) (h .1)) (lit< tt)
 
-  raised-bend-fits : SFits w64 (bendOf x tnl +ℤ pos 1048576)
+  raised-bend-fits : SFits w64 (bendOf x curve +ℤ pos 1048576)
   raised-bend-fits = bounded-fits (bounded-sum (bend-bounded (h .0) (h .1)) (number-bounded 1048576)) (lit< tt)
-
-mul-raised : tie.Need-mul-raised
-mul-raised c = rw (reads-back (c .fits .x)) (four-x-fits (c .pre))
 
 sub-raised : tie.Need-sub-raised
 sub-raised c = rw (reads-back (c .fits .x)) (rest-of-x-fits (c .pre))
 
-mul-raised-2 : tie.Need-mul-raised-2
-mul-raised-2 c = let h = c .pre in rw (reads-back (c .fits .x), reads-back (four-x-fits h), reads-back (rest-of-x-fits h)) (x-product-fits h)
+mul-raised : tie.Need-mul-raised
+mul-raised c = let h = c .pre in rw (reads-back (c .fits .x), reads-back (rest-of-x-fits h)) (x-product-fits h)
 
-mul-raised-3 : tie.Need-mul-raised-3
-mul-raised-3 c =
+mul-raised-2 : tie.Need-mul-raised-2
+mul-raised-2 c =
     let h = c .pre in
-    rw (reads-back (c .fits .x), reads-back (c .fits .tnl), reads-back (four-x-fits h), reads-back (rest-of-x-fits h), reads-back (x-product-fits h)) (x-tnl-fits h)
+    rw (reads-back (c .fits .x), reads-back (c .fits .curve), reads-back (rest-of-x-fits h), reads-back (x-product-fits h)) (x-curve-fits h)
 
 add-raised : tie.Need-add-raised
 add-raised c =
     let h = c .pre in
-    rw (reads-back (c .fits .x), reads-back (c .fits .tnl), reads-back (four-x-fits h), reads-back (rest-of-x-fits h), reads-back (x-product-fits h), reads-back (x-tnl-fits h)) (raised-fits h)
+    rw (reads-back (c .fits .x), reads-back (c .fits .curve), reads-back (rest-of-x-fits h), reads-back (x-product-fits h), reads-back (x-curve-fits h)) (raised-fits h)
 
 cast-round-natural : tie.Need-cast-round-natural
 cast-round-natural c =
     let h = c .pre in
-    rw (reads-back (c .fits .x), reads-back (c .fits .tnl), reads-back (four-x-fits h), reads-back (rest-of-x-fits h), reads-back (x-product-fits h), reads-back (x-tnl-fits h), reads-back (raised-fits h))
+    rw (reads-back (c .fits .x), reads-back (c .fits .curve), reads-back (rest-of-x-fits h), reads-back (x-product-fits h), reads-back (x-curve-fits h), reads-back (raised-fits h))
     (unsigned-fits (raised-not-negative (h .0) (h .1)) (raised-fits h))
 
 round-natural-requires : tie.Need-round-natural-requires
 round-natural-requires c κs =
     let h = c .pre in
-    rw (reads-back (c .fits .x), reads-back (c .fits .tnl), reads-back (four-x-fits h), reads-back (rest-of-x-fits h), reads-back (x-product-fits h), reads-back (x-tnl-fits h), reads-back (raised-fits h))
+    rw (reads-back (c .fits .x), reads-back (c .fits .curve), reads-back (rest-of-x-fits h), reads-back (x-product-fits h), reads-back (x-curve-fits h), reads-back (raised-fits h))
     (le-trans (bounded-size (raised-bounded (h .0) (h .1))) (lit≤ tt), lit< tt, lit≤ tt)
 
 module _ (c : tie.After-round-natural) where
   abbrev product : ℤ
-  product = pos 4 *ℤ c .before .args .x *ℤ (pos 65536 -ℤ c .before .args .x) *ℤ c .before .args .tnl
+  product = c .before .args .x *ℤ (pos 65536 -ℤ c .before .args .x) *ℤ c .before .args .curve
 
   raised-bend-is : pos (c .round-natural .result) ≡ r product (pos 4294967296) +ℤ pos 1048576
   raised-bend-is =
       let s = c .before in
       let h = s .pre in
-      (rw (reads-back (s .fits .x), reads-back (s .fits .tnl), reads-back (four-x-fits h), reads-back (rest-of-x-fits h), reads-back (x-product-fits h), reads-back (x-tnl-fits h), reads-back (raised-fits h), pos-natAbs (product +ℤ pos 4503599627370496) (yes-nonNeg (raised-not-negative (h .0) (h .1)))) at (c .round-natural .ensures))
+      (rw (reads-back (s .fits .x), reads-back (s .fits .curve), reads-back (rest-of-x-fits h), reads-back (x-product-fits h), reads-back (x-curve-fits h), reads-back (raised-fits h), pos-natAbs (product +ℤ pos 4503599627370496) (yes-nonNeg (raised-not-negative (h .0) (h .1)))) at (c .round-natural .ensures))
       ∙ r-shifted product (pos 1048576) (ltZ-yes tt)
 
   result-fits : SFits w64 (pos (c .round-natural .result))
@@ -108,10 +96,9 @@ pub bend-spec : {M : Type 1} → statement M
 bend-spec =
     tie.close
     (tie.spec
-    mul-raised
     sub-raised
+    mul-raised
     mul-raised-2
-    mul-raised-3
     add-raised
     cast-round-natural
     round-natural-requires

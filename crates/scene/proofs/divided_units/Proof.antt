@@ -1,5 +1,5 @@
--- `scene::divided_units` meets its contract: what is rounded is small enough to be doubled, so both roundings are those of the definition.
--- Assumes nothing.
+-- `scene::divided_units` meets its contract: what is rounded is small enough to be doubled, so both roundings are those of the definition,
+-- and the bend is too, with 4 TNL formed first. Assumes nothing.
 use mathlib.Core.Path.{_≡_, _∙_}
 use mathlib.Core.List.{[], _∷_}
 use lib.Dec.{lit<}
@@ -16,26 +16,26 @@ use Rattle.integers.proofs.Machine.{bounded-fits, reads-back, result-reads-back
 use Rattle.scene.specs.declared.Constants.{Constants}
 use Rattle.scene.specs.Temperature.{X, temperature}
 use Rattle.scene.specs.Ranges.{ConstantsRange}
-use Rattle.scene.proofs.Ranges.{n-bounded, x-bounded, n-rise-bounded, linear-bounded, d-fits, rise-fits}
+use Rattle.scene.proofs.Ranges.{n-bounded, x-bounded, n-rise-bounded, linear-bounded, d-fits, rise-fits, bend-of-four-tnl}
 use Rattle.scene.proofs.divided_units.Statement.{statement}
 use Rattle.scene.proofs.divided_units.Tie as tie
 
-module _ {k : Constants} {n : ℤ} (h : ConstantsRange k × (pos 0 ≤ℤ n) × ((pos 4 *ℤ n) ≤ℤ (pos 5 *ℤ k .d))) where
+module _ {k : Constants} {curve n : ℤ} (h : ConstantsRange k × (curve ≡ pos 4 *ℤ k .tnl) × (pos 0 ≤ℤ n) × ((pos 4 *ℤ n) ≤ℤ (pos 5 *ℤ k .d))) where
   scaled-bounded : Bounded (pos 65536 *ℤ n) (pos 4189139804160000)
-  scaled-bounded = bounded-product (number-bounded 65536) (n-bounded (h .0) (h .1) (h .2))
+  scaled-bounded = bounded-product (number-bounded 65536) (n-bounded (h .0) (h .2) (h .3))
 
   scaled-fits : SFits w64 (pos 65536 *ℤ n)
   scaled-fits = bounded-fits scaled-bounded (lit< tt)
 
   n-rise-fits : SFits w64 (n *ℤ k .rise)
-  n-rise-fits = bounded-fits (n-rise-bounded (h .0) (h .1) (h .2)) (lit< tt)
+  n-rise-fits = bounded-fits (n-rise-bounded (h .0) (h .2) (h .3)) (lit< tt)
 
   -- ---- what is rounded is small enough to be doubled
   scaled-small : Bounded (pos 65536 *ℤ n) (pos 2305843009213693952)
   scaled-small = bounded-weaker scaled-bounded (le-by [] [] (# 4189139804160000) (# 2305843009213693952) (hyp 0) tt)
 
   n-rise-small : Bounded (n *ℤ k .rise) (pos 2305843009213693952)
-  n-rise-small = bounded-weaker (n-rise-bounded (h .0) (h .1) (h .2)) (le-by [] [] (# 86773796902845000) (# 2305843009213693952) (hyp 0) tt)
+  n-rise-small = bounded-weaker (n-rise-bounded (h .0) (h .2) (h .3)) (le-by [] [] (# 86773796902845000) (# 2305843009213693952) (hyp 0) tt)
 
   d-small : k .d ≤ℤ pos 2305843009213693952
   d-small = (le-by ((k .d) ∷ []) ((v0 :≤ # 51136960500) ∷ []) v0 (# 2305843009213693952) (hyp 0 ⊕ hyp 1) tt (h .0 .d-high))
@@ -76,15 +76,17 @@ linear-reads-back c =
 
 units-of-requires : tie.Need-units-of-requires
 units-of-requires c κs =
-    let h = c .before .before .before .before .before .before .pre in
-    rw (x-reads-back (c .before .before .before .before), linear-reads-back c) (h .0, x-bounded (h .0) (h .1) (h .2), linear-bounded (h .0) (h .1) (h .2))
+    let s = c .before .before .before .before .before .before in
+    let h = s .pre in
+    rw (reads-back (s .fits .curve), x-reads-back (c .before .before .before .before), linear-reads-back c) (h .0, h .1, x-bounded (h .0) (h .2) (h .3), linear-bounded (h .0) (h .2) (h .3))
 
 returns : tie.Need-returns
 unfolding temperature
 returns c =
     let l = c .before in
+    let a = l .before .before .before .before .before .before .args in
     reads-back (record { sfits = c .units-of .ok })
-    ∙ rw (x-reads-back (l .before .before .before .before), linear-reads-back l) at (c .units-of .ensures)
+    ∙ rw (x-reads-back (l .before .before .before .before), linear-reads-back l, bend-of-four-tnl (X (a .n) (a .k .d)) (a .k .tnl)) at (c .units-of .ensures)
 
 pub divided-units-spec : {M : Type 1} → statement M
 divided-units-spec =

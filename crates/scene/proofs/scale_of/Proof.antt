@@ -1,5 +1,5 @@
--- `scene::scale_of` meets its contract: D and the rise are natural numbers, 33 times the rise is below 2^32, and the rest is divided as the
--- definition has it.
+-- `scene::scale_of` meets its contract: D and the rise are natural numbers, 33 times the rise is below 2^32, 4 TNL fits an i64, and the rest
+-- is divided as the definition has it.
 use native.Mathlib.Omega.{arith}
 use lib.Dec.{lit<}
 use lib.IntN.{pos, natAbs, _*ℤ_}
@@ -15,7 +15,7 @@ use Rattle.integers.proofs.Order.{below-at-most}
 use Rattle.integers.proofs.Machine.{bounded-fits, reads-back, result-reads-back, unsigned-fits}
 use Rattle.scene.specs.declared.Constants.{Constants}
 use Rattle.scene.specs.Ranges.{ConstantsRange}
-use Rattle.scene.proofs.Ranges.{d-fits, rise-fits, five-d-bounded, rise-bounded, rise-not-negative}
+use Rattle.scene.proofs.Ranges.{d-fits, rise-fits, tnl-fits, four-tnl-fits, five-d-bounded, rise-bounded, rise-not-negative}
 use Rattle.scene.proofs.scale_of.Statement.{statement}
 use Rattle.scene.proofs.scale_of.Tie as tie
 
@@ -52,10 +52,14 @@ floor-div-requires c κs = ltZ-yes tt
 top-is : (c : tie.After-floor-div) → c .floor-div .result ≡ floor (pos 5 *ℤ c .before .before .before .before .before .before .before .args .k .d) (pos 4)
 top-is c = let h = c .before .before .before .before .before .before .before .pre in rw (reads-back (d-fits h), reads-back (five-d-fits h)) at (c .floor-div .ensures)
 
+mul-curve : tie.Need-mul-curve
+mul-curve c = let h = c .before .before .before .before .before .before .before .before .before .pre in rw (reads-back (tnl-fits h)) (four-tnl-fits h)
+
 returns : tie.Need-returns
 returns c =
-    let h = c .before .before .before .before .before .before .before .pre in
-    rw (reads-back (d-fits h), reads-back (rise-fits h), result-reads-back (c .floor-div .result) (c .floor-div .ok), top-is c)
+    let f = c .before .before in
+    let h = f .before .before .before .before .before .before .before .pre in
+    rw (reads-back (d-fits h), reads-back (rise-fits h), result-reads-back (f .floor-div .result) (f .floor-div .ok), top-is f, reads-back (tnl-fits h), reads-back (four-tnl-fits h))
 
 pub scale-of-spec : {M : Type 1} → statement M
-scale-of-spec = tie.close (tie.spec cast-inverse div-inverse cast-edge mul-edge sub-edge mul-floor-div floor-div-requires returns)
+scale-of-spec = tie.close (tie.spec cast-inverse div-inverse cast-edge mul-edge sub-edge mul-floor-div floor-div-requires mul-curve returns)
