@@ -43,12 +43,12 @@ pub fn round(a: i64, b: i64) -> i64
     quotient + 1
 }
 
-// r(a, b) by its own equation, where 2a + b fits: one division, and no remainder to decide by.
-pub fn round_small(a: i64, b: i64) -> i64
-    requires { ⌜ Bounded a (pos 2305843009213693952) × (pos 0 <ℤ b) × (b ≤ℤ pos 2305843009213693952) ⌝ }
+// r(a, b) by its own equation, where 2a + b fits and 2b is at hand: one division, and no remainder to decide by.
+pub fn round_small(a: i64, b: i64, twice: i64) -> i64
+    requires { ⌜ Bounded a (pos 2305843009213693952) × (pos 0 <ℤ b) × (b ≤ℤ pos 2305843009213693952) × (twice ≡ pos 2 *ℤ b) ⌝ }
     ensures { λ q. ⌜ q ≡ r a b ⌝ }
 {
-    floor_div(2 * a + b, 2 * b)
+    floor_div(2 * a + b, twice)
 }
 
 // r(a, 2 half) of natural numbers: nothing to correct, and where half is a constant power of two a shift.

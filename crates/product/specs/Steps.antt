@@ -39,4 +39,4 @@ PairsRange part = (i : ℕ) → i < positions → BiasNumbers (getD part (2 * i)
 
 -- what the scenes of a channel share; nothing where it is flagged
 unfoldable pub scaleIn : Channel → Scale
-scaleIn channel = cond (eqb (channel .flag) 0) (scaleOf (channel .constants)) (record { inverse = 0; edge = 0; top = pos 0; curve = pos 0 })
+scaleIn channel = cond (eqb (channel .flag) 0) (scaleOf (channel .constants)) (record { inverse = 0; edge = 0; top = pos 0; curve = pos 0; start = pos 0; twice = pos 0 })

@@ -122,6 +122,8 @@ fn scale_in(channel: Channel) -> Scale
             edge: 0,
             top: 0,
             curve: 0,
+            start: 0,
+            twice: 0,
         };
     }
     let k = channel.constants;

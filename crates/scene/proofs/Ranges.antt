@@ -1,28 +1,29 @@
 -- The range of every number on the way to a scene. For a channel's constants N is within 51,136,960,500 at every count; where it is not
 -- negative and 4N is at most 5D, X is within 81,920 and T within 1,832,984. The greatest signed number is N(Tw - Tc), below 10^17, so
 -- each fits.
-use mathlib.Core.Path.{_≡_, ap}
+use mathlib.Core.Path.{_≡_, ap, _∙_}
 use mathlib.Core.List.{[], _∷_}
 use Prim.Native.Nat.{ℕ, _≤_}
 use lib.Dec.{lit<}
 use lib.IntN.{ℤ, pos, _+ℤ_, _-ℤ_, _*ℤ_}
 use lib.Signed.{_≤ℤ_, _<ℤ_, ltZ-yes}
 use mir.Syntax.{w64}
-use mir.Val.{SFits}
+use mir.Val.{SFits, toZ, ofZ}
 use Rattle.integers.specs.Rounding.{r}
 use Rattle.integers.specs.Bounds.{Bounded}
-use Rattle.integers.proofs.Ring.{_:+_, _:-_, _:*_, opp, ring, #, v0, v1, v2}
+use Rattle.integers.proofs.Ring.{_:+_, _:-_, _:*_, opp, ring, #, v0, v1, v2, v3}
 use Rattle.integers.proofs.Certificate.{_:≤_, _:<_, hyp, nat, _⊕_, _⊗_, le-by}
 use Rattle.integers.proofs.Bounds.{bounded-sum, bounded-difference, bounded-product, bounded-not-negative, natural-bounded, number-bounded}
-use Rattle.integers.proofs.Machine.{bounded-fits}
+use Rattle.integers.proofs.Machine.{bounded-fits, reads-back}
 use Rattle.integers.proofs.Order.{below-at-most, product-not-negative}
 use Rattle.integers.proofs.Naturals.{natural-not-negative}
 use Rattle.integers.proofs.Nearest.{r-bounded}
 use Rattle.scene.specs.declared.Constants.{Constants}
+use Rattle.scene.specs.declared.Scale.{Scale}
 use Rattle.scene.specs.Temperature.{X}
 use Rattle.scene.specs.Scene.{numerator}
 use Rattle.scene.specs.Ranges.{ConstantsRange}
-use Rattle.scene.specs.Steps.{bendOf}
+use Rattle.scene.specs.Steps.{scaleOf, bendOf}
 
 -- ---- the bend
 module _ {x curve : ℤ} (h : Bounded x (pos 81920)) (k : Bounded curve (pos 32768)) where
@@ -44,6 +45,9 @@ module _ {x curve : ℤ} (h : Bounded x (pos 81920)) (k : Bounded curve (pos 327
 
   pub bend-bounded : Bounded (bendOf x curve) (pos 92160)
   bend-bounded = r-bounded (x *ℤ (pos 65536 -ℤ x) *ℤ curve) (ltZ-yes tt) x-curve-bounded
+
+  pub raised-bend-bounded : Bounded (bendOf x curve +ℤ pos 1048576) (pos 1140736)
+  raised-bend-bounded = bounded-sum bend-bounded (number-bounded 1048576)
 
 pub four-tnl-bounded : {tnl : ℤ} → Bounded tnl (pos 8192) → Bounded (pos 4 *ℤ tnl) (pos 32768)
 four-tnl-bounded h = bounded-product (number-bounded 4) h
@@ -102,6 +106,29 @@ module _ {k : Constants} (h : ConstantsRange k) where
   pub four-tnl-fits : SFits w64 (pos 4 *ℤ k .tnl)
   four-tnl-fits = bounded-fits (four-tnl-bounded (h .tnl)) (lit< tt)
 
+  pub start-bounded : Bounded (k .tc -ℤ pos 1048576) (pos 1037410)
+  start-bounded = record {
+    low = (le-by ((k .tc) ∷ []) ((# 11166 :≤ v0) ∷ []) (opp (# 1037410)) (v0 :- # 1048576) (hyp 0 ⊕ hyp 1) tt (h .tc-low));
+    high = (le-by ((k .tc) ∷ []) ((v0 :≤ # 43934) ∷ []) (v0 :- # 1048576) (# 1037410) (hyp 0 ⊕ hyp 1) tt (h .tc-high));
+  }
+
+  pub start-fits : SFits w64 (k .tc -ℤ pos 1048576)
+  start-fits = bounded-fits start-bounded (lit< tt)
+
+  pub twice-d-fits : SFits w64 (pos 2 *ℤ k .d)
+  twice-d-fits = bounded-fits (bounded-product (number-bounded 2) d-bounded) (lit< tt)
+
+  -- ---- what the scale lends to a scene
+  module _ {scale : Scale} (e : scale ≡ scaleOf k) where
+    pub curve-reads-back : toZ w64 (ofZ w64 (scale .curve)) ≡ pos 4 *ℤ k .tnl
+    curve-reads-back = ap (λ (s : Scale). toZ w64 (ofZ w64 (s .curve))) e ∙ reads-back four-tnl-fits
+
+    pub start-reads-back : toZ w64 (ofZ w64 (scale .start)) ≡ k .tc -ℤ pos 1048576
+    start-reads-back = ap (λ (s : Scale). toZ w64 (ofZ w64 (s .start))) e ∙ reads-back start-fits
+
+    pub twice-reads-back : toZ w64 (ofZ w64 (scale .twice)) ≡ pos 2 *ℤ k .d
+    twice-reads-back = ap (λ (s : Scale). toZ w64 (ofZ w64 (s .twice))) e ∙ reads-back twice-d-fits
+
   pub slope-bounded : Bounded (k .slope) (pos 780300)
   slope-bounded = bounded-not-negative (h .slope-low) (h .slope-high)
 
@@ -157,10 +184,17 @@ module _ {k : Constants} (h : ConstantsRange k) where
     pub linear-bounded : Bounded (r (n *ℤ k .rise) (k .d)) (pos 1696890)
     linear-bounded = scene-linear-bounded scene-range
 
-  -- ---- T of X and the linear part
-  module _ {x linear : ℤ} (of-x : Bounded x (pos 81920)) (of-linear : Bounded linear (pos 1696890)) where
-    pub linear-sum-bounded : Bounded (k .tc +ℤ linear) (pos 1740824)
-    linear-sum-bounded = bounded-sum tc-bounded of-linear
+-- ---- T of X and the linear part, from the start
+module _ {start curve x linear : ℤ} (of-start : Bounded start (pos 1037410)) (of-curve : Bounded curve (pos 32768)) (of-x : Bounded x (pos 81920)) (of-linear : Bounded linear (pos 1696890)) where
+  pub linear-sum-bounded : Bounded (start +ℤ linear) (pos 2734300)
+  linear-sum-bounded = bounded-sum of-start of-linear
 
-    pub units-bounded : Bounded (k .tc +ℤ linear +ℤ bendOf x (pos 4 *ℤ k .tnl)) (pos 1832984)
-    units-bounded = bounded-sum linear-sum-bounded (bend-bounded of-x (four-tnl-bounded (h .tnl)))
+  pub units-bounded : Bounded (start +ℤ linear +ℤ (bendOf x curve +ℤ pos 1048576)) (pos 3875036)
+  units-bounded = bounded-sum linear-sum-bounded (raised-bend-bounded of-x of-curve)
+
+-- it is T of document 01's words
+pub units-from-start : (tc linear x tnl : ℤ)
+    → tc -ℤ pos 1048576 +ℤ linear +ℤ (bendOf x (pos 4 *ℤ tnl) +ℤ pos 1048576) ≡ tc +ℤ linear +ℤ r (pos 4 *ℤ x *ℤ (pos 65536 -ℤ x) *ℤ tnl) (pos 4294967296)
+units-from-start tc linear x tnl =
+    ring (tc ∷ linear ∷ bendOf x (pos 4 *ℤ tnl) ∷ pos 1048576 ∷ []) (v0 :- v3 :+ v1 :+ (v2 :+ v3)) (v0 :+ v1 :+ v2) tt
+    ∙ ap (λ z. tc +ℤ linear +ℤ z) (bend-of-four-tnl x tnl)

@@ -10,9 +10,10 @@ use Rattle.integers.specs.Bounds.{Bounded}
 use Rattle.scene.specs.declared.Constants.{Constants}
 use Rattle.scene.specs.declared.Scale.{Scale}
 
--- 2^63 / D, cut off; the greatest rest of 2^32 that 33 times the rise does not fill; the greatest N with 4N at most 5D; and 4 TNL
+-- 2^63 / D, cut off; the greatest rest of 2^32 that 33 times the rise does not fill; the greatest N with 4N at most 5D; 4 TNL;
+-- Tc - 2^20; and 2D
 abbrev pub scaleOf : Constants → Scale
-scaleOf k = record { inverse = 9223372036854775808 / natAbs (k .d); edge = 4294967294 - 33 * natAbs (k .rise); top = floor (pos 5 *ℤ k .d) (pos 4); curve = pos 4 *ℤ k .tnl }
+scaleOf k = record { inverse = 9223372036854775808 / natAbs (k .d); edge = 4294967294 - 33 * natAbs (k .rise); top = floor (pos 5 *ℤ k .d) (pos 4); curve = pos 4 *ℤ k .tnl; start = k .tc -ℤ pos 1048576; twice = pos 2 *ℤ k .d }
 
 -- N / D is from w to w + 33, in 2^32ths
 pub record Bracket (n d : ℤ) (w : ℕ) : Type 0 where

@@ -38,13 +38,16 @@ pub struct Channel {
     pub constants: Constants,
 }
 
-// What the scenes of a channel share, so that most need no division: 2^63 / D, cut off; the greatest rest of 2^32 that 33 times the rise
-// does not fill; 5D / 4, cut off, the greatest N that is not outside; and 4 TNL, for the bend.
+// What the scenes of a channel share, formed of its constants before the position loop, so that most need no division: 2^63 / D, cut off;
+// the greatest rest of 2^32 that 33 times the rise does not fill; 5D / 4, cut off, the greatest N that is not outside; 4 TNL; Tc - 2^20,
+// from where the raised bend leads to T; and 2D, for the counts that are divided.
 pub struct Scale {
     pub inverse: u64,
     pub edge: u32,
     pub top: i64,
     pub curve: i64,
+    pub start: i64,
+    pub twice: i64,
 }
 
 pub fn scale_of(k: Constants) -> Scale
@@ -55,11 +58,15 @@ pub fn scale_of(k: Constants) -> Scale
     let edge = 4_294_967_294 - 33 * k.rise as u32;
     let top = floor_div(5 * k.d, 4);
     let curve = 4 * k.tnl;
+    let start = k.tc - 1_048_576;
+    let twice = 2 * k.d;
     Scale {
         inverse,
         edge,
         top,
         curve,
+        start,
+        twice,
     }
 }
 
@@ -82,31 +89,31 @@ fn unsure(x: u64, linear: u64, edge: u32) -> bool
     edge < (linear % 4_294_967_296) as u32
 }
 
-// r(X(65,536 - X) × 4 TNL, 2^32). It is rounded 2^20 higher, where it is never negative: the division is then a shift.
-fn bend(x: i64, curve: i64) -> i64
+// r(X(65,536 - X) × 4 TNL, 2^32), raised by 2^20: what is rounded is then never negative, and the division is a shift.
+fn raised_bend(x: i64, curve: i64) -> i64
     requires { ⌜ Bounded x (pos 81920) × Bounded curve (pos 32768) ⌝ }
-    ensures { λ t. ⌜ t ≡ bendOf x curve ⌝ }
+    ensures { λ t. ⌜ t ≡ bendOf x curve +ℤ pos 1048576 ⌝ }
 {
     let raised = x * (65_536 - x) * curve + 4_503_599_627_370_496;
-    round_natural(raised as u64, 2_147_483_648) as i64 - 1_048_576
+    round_natural(raised as u64, 2_147_483_648) as i64
 }
 
 // T, in units, of X and the linear part.
-fn units_of(k: Constants, curve: i64, x: i64, linear: i64) -> i64
-    requires { ⌜ ConstantsRange k × (curve ≡ pos 4 *ℤ k .tnl) × Bounded x (pos 81920) × Bounded linear (pos 1696890) ⌝ }
-    ensures { λ t. ⌜ t ≡ k .tc +ℤ linear +ℤ bendOf x (pos 4 *ℤ k .tnl) ⌝ }
+fn units_of(start: i64, curve: i64, x: i64, linear: i64) -> i64
+    requires { ⌜ Bounded start (pos 1037410) × Bounded curve (pos 32768) × Bounded x (pos 81920) × Bounded linear (pos 1696890) ⌝ }
+    ensures { λ t. ⌜ t ≡ start +ℤ linear +ℤ (bendOf x curve +ℤ pos 1048576) ⌝ }
 {
-    k.tc + linear + bend(x, curve)
+    start + linear + raised_bend(x, curve)
 }
 
 // T by the divisions as they are written.
-fn divided_units(k: Constants, curve: i64, n: i64) -> i64
-    requires { ⌜ ConstantsRange k × (curve ≡ pos 4 *ℤ k .tnl) × (pos 0 ≤ℤ n) × ((pos 4 *ℤ n) ≤ℤ (pos 5 *ℤ k .d)) ⌝ }
+fn divided_units(k: Constants, scale: Scale, n: i64) -> i64
+    requires { ⌜ ConstantsRange k × (scale ≡ scaleOf k) × (pos 0 ≤ℤ n) × ((pos 4 *ℤ n) ≤ℤ (pos 5 *ℤ k .d)) ⌝ }
     ensures { λ t. ⌜ t ≡ temperature (k .tc) (k .rise) (k .tnl) (k .d) n ⌝ }
 {
-    let x = round_small(65_536 * n, k.d);
-    let linear = round_small(n * k.rise, k.d);
-    units_of(k, curve, x, linear)
+    let x = round_small(65_536 * n, k.d, scale.twice);
+    let linear = round_small(n * k.rise, k.d, scale.twice);
+    units_of(scale.start, scale.curve, x, linear)
 }
 
 // T by a product in place of each division, where no half lies in the bracket.
@@ -118,10 +125,10 @@ fn units(k: Constants, scale: Scale, n: i64) -> i64
     let x = low + 32_767;
     let linear = low * k.rise as u64 + 2_147_483_647;
     if unsure(x, linear, scale.edge) {
-        return divided_units(k, scale.curve, n);
+        return divided_units(k, scale, n);
     }
     units_of(
-        k,
+        scale.start,
         scale.curve,
         (x / 65_536) as i64,
         (linear / 4_294_967_296) as i64,

@@ -1,4 +1,4 @@
--- `integers::round_small` meets its contract: 2a + b and 2b fit, so what is divided is what r divides. Assumes nothing.
+-- `integers::round_small` meets its contract: 2a + b fits, so what is divided is what r divides. Assumes nothing.
 use mathlib.Core.Path.{_≡_}
 use mathlib.Core.List.{[], _∷_}
 use lib.IntN.{ℤ, pos, _+ℤ_, _*ℤ_}
@@ -13,7 +13,7 @@ use Rattle.integers.proofs.Machine.{reads-back, result-reads-back, rang
 use Rattle.integers.proofs.round_small.Statement.{statement}
 use Rattle.integers.proofs.round_small.Tie as tie
 
-module _ {a b : ℤ} (h : Bounded a (pos 2305843009213693952) × (pos 0 <ℤ b) × (b ≤ℤ pos 2305843009213693952)) where
+module _ {a b twice : ℤ} (h : Bounded a (pos 2305843009213693952) × (pos 0 <ℤ b) × (b ≤ℤ pos 2305843009213693952) × (twice ≡ pos 2 *ℤ b)) where
   twice-a-fits : SFits w64 (pos 2 *ℤ a)
   twice-a-fits =
       range-fits
@@ -26,12 +26,6 @@ module _ {a b : ℤ} (h : Bounded a (pos 2305843009213693952) × (pos 0 <ℤ b) 
       (le-by (a ∷ b ∷ []) ((opp (# 2305843009213693952) :≤ v0) ∷ (# 0 :< v1) ∷ []) (opp (# 9223372036854775808)) (# 2 :* v0 :+ v1) (hyp 0 ⊕ nat 2 ⊗ hyp 1 ⊕ hyp 2) tt (h .0 .low) (h .1))
       (le-by (a ∷ b ∷ []) ((v0 :≤ # 2305843009213693952) ∷ (v1 :≤ # 2305843009213693952) ∷ []) (# 2 :* v0 :+ v1) (# 9223372036854775807) (hyp 0 ⊕ nat 2 ⊗ hyp 1 ⊕ hyp 2) tt (h .0 .high) (h .2))
 
-  twice-b-fits : SFits w64 (pos 2 *ℤ b)
-  twice-b-fits =
-      range-fits
-      (le-by (b ∷ []) ((# 0 :< v0) ∷ []) (opp (# 9223372036854775808)) (# 2 :* v0) (hyp 0 ⊕ nat 2 ⊗ hyp 1) tt (h .1))
-      (le-by (b ∷ []) ((v0 :≤ # 2305843009213693952) ∷ []) (# 2 :* v0) (# 9223372036854775807) (hyp 0 ⊕ nat 2 ⊗ hyp 1) tt (h .2))
-
   twice-b-above-zero : pos 0 <ℤ (pos 2 *ℤ b)
   twice-b-above-zero = lt-by (b ∷ []) ((# 0 :< v0) ∷ []) (# 0) (# 2 :* v0) (hyp 0 ⊕ nat 2 ⊗ hyp 1) tt (h .1)
 
@@ -41,21 +35,17 @@ mul-floor-div c = rw (reads-back (c .fits .a)) (twice-a-fits (c .pre))
 add-floor-div : tie.Need-add-floor-div
 add-floor-div c = rw (reads-back (c .fits .a), reads-back (c .fits .b), reads-back (twice-a-fits (c .pre))) (numerator-fits (c .pre))
 
-mul-floor-div-2 : tie.Need-mul-floor-div-2
-mul-floor-div-2 c = rw (reads-back (c .fits .b)) (twice-b-fits (c .pre))
-
 floor-div-requires : tie.Need-floor-div-requires
-floor-div-requires c κs = rw (reads-back (c .fits .b), reads-back (twice-b-fits (c .pre))) (twice-b-above-zero (c .pre))
+floor-div-requires c κs = rw (reads-back (c .fits .twice), c .pre .3) (twice-b-above-zero (c .pre))
 
 quotient-is : (c : tie.After-floor-div) → c .floor-div .result ≡ r (c .before .args .a) (c .before .args .b)
 unfolding r
 quotient-is c =
     let s = c .before in
-    rw (reads-back (s .fits .a), reads-back (s .fits .b), reads-back (twice-a-fits (s .pre)), reads-back (numerator-fits (s .pre)), reads-back (twice-b-fits (s .pre))) at (c .floor-div .ensures)
+    rw (reads-back (s .fits .a), reads-back (s .fits .b), reads-back (twice-a-fits (s .pre)), reads-back (numerator-fits (s .pre)), reads-back (s .fits .twice), s .pre .3) at (c .floor-div .ensures)
 
 returns : tie.Need-returns
 returns c = rw (result-reads-back (c .floor-div .result) (c .floor-div .ok)) (quotient-is c)
 
 pub round-small-spec : {M : Type 1} → statement M
-round-small-spec =
-    tie.close (tie.spec mul-floor-div add-floor-div mul-floor-div-2 floor-div-requires returns)
+round-small-spec = tie.close (tie.spec mul-floor-div add-floor-div floor-div-requires returns)

@@ -1,5 +1,5 @@
--- `scene::scale_of` meets its contract: D and the rise are natural numbers, 33 times the rise is below 2^32, 4 TNL fits an i64, and the rest
--- is divided as the definition has it.
+-- `scene::scale_of` meets its contract: D and the rise are natural numbers, 33 times the rise is below 2^32, 4 TNL, Tc - 2^20 and 2D fit an i64,
+-- and the rest is divided as the definition has it.
 use native.Mathlib.Omega.{arith}
 use lib.Dec.{lit<}
 use lib.IntN.{pos, natAbs, _*ℤ_}
@@ -15,7 +15,7 @@ use Rattle.integers.proofs.Order.{below-at-most}
 use Rattle.integers.proofs.Machine.{bounded-fits, reads-back, result-reads-back, unsigned-fits}
 use Rattle.scene.specs.declared.Constants.{Constants}
 use Rattle.scene.specs.Ranges.{ConstantsRange}
-use Rattle.scene.proofs.Ranges.{d-fits, rise-fits, tnl-fits, four-tnl-fits, five-d-bounded, rise-bounded, rise-not-negative}
+use Rattle.scene.proofs.Ranges.{d-fits, tc-fits, rise-fits, tnl-fits, four-tnl-fits, start-fits, twice-d-fits, five-d-bounded, rise-bounded, rise-not-negative}
 use Rattle.scene.proofs.scale_of.Statement.{statement}
 use Rattle.scene.proofs.scale_of.Tie as tie
 
@@ -55,11 +55,17 @@ top-is c = let h = c .before .before .before .before .before .before .before .pr
 mul-curve : tie.Need-mul-curve
 mul-curve c = let h = c .before .before .before .before .before .before .before .before .before .pre in rw (reads-back (tnl-fits h)) (four-tnl-fits h)
 
+sub-start : tie.Need-sub-start
+sub-start c = let h = c .before .before .before .before .before .before .before .before .before .before .before .pre in rw (reads-back (tc-fits h)) (start-fits h)
+
+mul-twice : tie.Need-mul-twice
+mul-twice c = let h = c .before .before .before .before .before .before .before .before .before .before .before .before .before .pre in rw (reads-back (d-fits h)) (twice-d-fits h)
+
 returns : tie.Need-returns
 returns c =
-    let f = c .before .before in
+    let f = c .before .before .before .before .before .before in
     let h = f .before .before .before .before .before .before .before .pre in
-    rw (reads-back (d-fits h), reads-back (rise-fits h), result-reads-back (f .floor-div .result) (f .floor-div .ok), top-is f, reads-back (tnl-fits h), reads-back (four-tnl-fits h))
+    rw (reads-back (d-fits h), reads-back (rise-fits h), result-reads-back (f .floor-div .result) (f .floor-div .ok), top-is f, reads-back (tnl-fits h), reads-back (four-tnl-fits h), reads-back (tc-fits h), reads-back (start-fits h), reads-back (twice-d-fits h))
 
 pub scale-of-spec : {M : Type 1} → statement M
-scale-of-spec = tie.close (tie.spec cast-inverse div-inverse cast-edge mul-edge sub-edge mul-floor-div floor-div-requires mul-curve returns)
+scale-of-spec = tie.close (tie.spec cast-inverse div-inverse cast-edge mul-edge sub-edge mul-floor-div floor-div-requires mul-curve sub-start mul-twice returns)

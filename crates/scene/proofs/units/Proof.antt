@@ -1,6 +1,6 @@
 -- `scene::units` meets its contract: where no half lies in the bracket around N / D, X and the linear part are the nearest whole numbers,
--- and so those of the definition; else the divisions answer. The bend is that of the definition with 4 TNL formed first. Assumes nothing.
-use mathlib.Core.Path.{_≡_, refl, sym, _∙_, ap}
+-- and so those of the definition, and from the start the raised bend leads to its T; else the divisions answer. Assumes nothing.
+use mathlib.Core.Path.{_≡_, sym, _∙_, ap}
 use Prim.Native.Nat.{ℕ, _+_, _*_, _/_, _≤_}
 use native.Mathlib.Nat.{lt-of-le-of-lt, mul-le-mul}
 use native.Mathlib.Omega.{arith}
@@ -8,7 +8,7 @@ use lib.Dec.{lit<}
 use lib.IntN.{ℤ, pos, natAbs, _*ℤ_}
 use lib.Signed.{_≤ℤ_, yes-nonNeg, pos-natAbs}
 use mir.Syntax.{w64}
-use mir.Val.{toZ, ofZ}
+use mir.Val.{toZ}
 use borrow.Author.Needs.{needs}
 use Rattle.integers.specs.Rounding.{r}
 use Rattle.integers.proofs.Bounds.{bounded-size}
@@ -17,7 +17,7 @@ use Rattle.scene.specs.declared.Constants.{Constants}
 use Rattle.scene.specs.Temperature.{X, temperature}
 use Rattle.scene.specs.Ranges.{ConstantsRange}
 use Rattle.scene.specs.Steps.{scaleOf, Bracket, unsureOf}
-use Rattle.scene.proofs.Ranges.{rise-bounded, rise-not-negative, rise-fits, x-bounded, linear-bounded, four-tnl-fits, bend-of-four-tnl}
+use Rattle.scene.proofs.Ranges.{rise-bounded, rise-not-negative, rise-fits, x-bounded, linear-bounded, start-bounded, four-tnl-bounded, start-reads-back, curve-reads-back, units-from-start}
 use Rattle.scene.proofs.Bracket.{low-end-small, linear-nearest, x-nearest, Sure, sure-by}
 use Rattle.scene.proofs.units.Statement.{statement}
 use Rattle.scene.proofs.units.Tie as tie
@@ -51,9 +51,6 @@ low-end-requires c κs =
     let h = c .pre in
     rw (reads-back (c .fits .n)) (h .0, ap (λ s. s .inverse) (h .1), h .2, h .3)
 
-curve-reads-back : (s : tie.Start) → toZ w64 (ofZ w64 (s .args .scale .curve)) ≡ pos 4 *ℤ s .args .k .tnl
-curve-reads-back s = let curve : s .args .scale .curve ≡ pos 4 *ℤ s .args .k .tnl = ap (λ s. s .curve) (s .pre .1) in rw curve (reads-back (four-tnl-fits (s .pre .0)))
-
 bracketed : (l : tie.After-low-end) → Bracket (l .before .args .n) (l .before .args .k .d) (l .low-end .result)
 bracketed l = rw (reads-back (l .before .fits .n)) at (l .low-end .ensures)
 
@@ -82,13 +79,11 @@ unsure-requires c κs = search needs
 
 -- ---- unsure
 divided-units-requires : tie.Need-divided-units-requires
-divided-units-requires c κs =
-    let s = c .before .before .before .before .before .before in
-    rw (curve-reads-back s, reads-back (s .fits .n)) (s .pre .0, refl, s .pre .2, s .pre .3)
+divided-units-requires c κs = let s = c .before .before .before .before .before in rw (reads-back (s .fits .n)) (s .pre)
 
 returns : tie.Need-returns
 returns c =
-    let s = c .before .before .before .before .before .before .before in
+    let s = c .before .before .before .before .before .before in
     reads-back (record { sfits = c .divided-units .ok }) ∙ rw (reads-back (s .fits .n)) at (c .divided-units .ensures)
 
 -- ---- sure
@@ -122,16 +117,20 @@ cast-units-of-2 c = let h = start c .pre in rw (reads-back (rise-fits (h .0))) (
 
 units-of-requires : tie.Need-units-of-requires
 units-of-requires c κs =
-    let e = c .before in
+    let e = c .before .before in
     let h = start e .pre in
-    rw (curve-reads-back (start e), reads-back (rise-fits (h .0)), found-x e, found-linear e) (h .0, refl, x-bounded (h .0) (h .2) (h .3), linear-bounded (h .0) (h .2) (h .3))
+    rw (start-reads-back (h .0) (h .1), curve-reads-back (h .0) (h .1), reads-back (rise-fits (h .0)), found-x e, found-linear e)
+    (start-bounded (h .0), four-tnl-bounded (h .0 .tnl), x-bounded (h .0) (h .2) (h .3), linear-bounded (h .0) (h .2) (h .3))
 
 returns-2 : tie.Need-returns-2
 unfolding temperature
 returns-2 c =
-    let e = c .before .before in
+    let e = c .before .before .before in
+    let s = start e in
+    let h = s .pre in
     reads-back (record { sfits = c .units-of .ok })
-    ∙ rw (reads-back (rise-fits (start e .pre .0)), found-x e, found-linear e, bend-of-four-tnl (X (start e .args .n) (start e .args .k .d)) (start e .args .k .tnl)) at (c .units-of .ensures)
+    ∙ (rw (start-reads-back (h .0) (h .1), curve-reads-back (h .0) (h .1), reads-back (rise-fits (h .0)), found-x e, found-linear e) at (c .units-of .ensures))
+    ∙ units-from-start (s .args .k .tc) (r (s .args .n *ℤ s .args .k .rise) (s .args .k .d)) (X (s .args .n) (s .args .k .d)) (s .args .k .tnl)
 
 pub units-spec : {M : Type 1} → statement M
 units-spec =

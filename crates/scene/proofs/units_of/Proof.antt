@@ -1,50 +1,47 @@
--- `scene::units_of` meets its contract: the curve is 4 TNL, and both sums are in the range that Ranges has for them, so they fit an
--- i64. Assumes nothing.
+-- `scene::units_of` meets its contract: both sums are in the range that Ranges has for them, so they fit an i64. Assumes nothing.
 use mathlib.Core.Path.{_≡_, _∙_}
 use lib.Dec.{lit<}
-use lib.IntN.{ℤ, pos, _+ℤ_, _*ℤ_}
+use lib.IntN.{ℤ, pos, _+ℤ_}
 use mir.Syntax.{w64}
 use mir.Val.{SFits, toZ, ofZ}
 use Rattle.integers.specs.Bounds.{Bounded}
 use Rattle.integers.proofs.Machine.{bounded-fits, reads-back, result-reads-back}
-use Rattle.scene.specs.declared.Constants.{Constants}
-use Rattle.scene.specs.Ranges.{ConstantsRange}
 use Rattle.scene.specs.Steps.{bendOf}
-use Rattle.scene.proofs.Ranges.{tc-fits, four-tnl-bounded, linear-sum-bounded, units-bounded}
+use Rattle.scene.proofs.Ranges.{linear-sum-bounded, units-bounded}
 use Rattle.scene.proofs.units_of.Statement.{statement}
 use Rattle.scene.proofs.units_of.Tie as tie
 
-module _ {k : Constants} {curve x linear : ℤ} (h : ConstantsRange k × (curve ≡ pos 4 *ℤ k .tnl) × Bounded x (pos 81920) × Bounded linear (pos 1696890)) where
-  sum-fits : SFits w64 (k .tc +ℤ linear)
-  sum-fits = bounded-fits (linear-sum-bounded (h .0) (h .2) (h .3)) (lit< tt)
+module _ {start curve x linear : ℤ} (h : Bounded start (pos 1037410) × Bounded curve (pos 32768) × Bounded x (pos 81920) × Bounded linear (pos 1696890)) where
+  sum-fits : SFits w64 (start +ℤ linear)
+  sum-fits = bounded-fits (linear-sum-bounded (h .0) (h .1) (h .2) (h .3)) (lit< tt)
 
-  units-fit : SFits w64 (k .tc +ℤ linear +ℤ bendOf x (pos 4 *ℤ k .tnl))
-  units-fit = bounded-fits (units-bounded (h .0) (h .2) (h .3)) (lit< tt)
+  units-fit : SFits w64 (start +ℤ linear +ℤ (bendOf x curve +ℤ pos 1048576))
+  units-fit = bounded-fits (units-bounded (h .0) (h .1) (h .2) (h .3)) (lit< tt)
 
 add-result : tie.Need-add-result
-add-result c = let s = c .before .before in rw (reads-back (tc-fits (s .pre .0)), reads-back (s .fits .linear)) (sum-fits (s .pre))
+add-result c = rw (reads-back (c .fits .start), reads-back (c .fits .linear)) (sum-fits (c .pre))
 
-bend-requires : tie.Need-bend-requires
-bend-requires c κs = let s = c .before .before in rw (reads-back (s .fits .x), reads-back (s .fits .curve), s .pre .1) (s .pre .2, four-tnl-bounded (s .pre .0 .tnl))
+raised-bend-requires : tie.Need-raised-bend-requires
+raised-bend-requires c κs = rw (reads-back (c .fits .x), reads-back (c .fits .curve)) (c .pre .2, c .pre .1)
 
-module _ (c : tie.After-bend) where
+module _ (c : tie.After-raised-bend) where
   abbrev start : tie.Start
-  start = c .before .before .before
+  start = c .before
 
-  bend-reads-back : toZ w64 (ofZ w64 (c .bend .result)) ≡ bendOf (start .args .x) (pos 4 *ℤ start .args .k .tnl)
+  bend-reads-back : toZ w64 (ofZ w64 (c .raised-bend .result)) ≡ bendOf (start .args .x) (start .args .curve) +ℤ pos 1048576
   bend-reads-back =
-      result-reads-back (c .bend .result) (c .bend .ok)
-      ∙ rw (reads-back (start .fits .x), reads-back (start .fits .curve), start .pre .1) at (c .bend .ensures)
+      result-reads-back (c .raised-bend .result) (c .raised-bend .ok)
+      ∙ rw (reads-back (start .fits .x), reads-back (start .fits .curve)) at (c .raised-bend .ensures)
 
 add-result-2 : tie.Need-add-result-2
 add-result-2 c =
     let s = start c in
-    rw (reads-back (tc-fits (s .pre .0)), reads-back (s .fits .linear), reads-back (sum-fits (s .pre)), bend-reads-back c) (units-fit (s .pre))
+    rw (reads-back (s .fits .start), reads-back (s .fits .linear), reads-back (sum-fits (s .pre)), bend-reads-back c) (units-fit (s .pre))
 
 returns : tie.Need-returns
 returns c =
     let s = start c in
-    rw (reads-back (tc-fits (s .pre .0)), reads-back (s .fits .linear), reads-back (sum-fits (s .pre)), bend-reads-back c, reads-back (units-fit (s .pre)))
+    rw (reads-back (s .fits .start), reads-back (s .fits .linear), reads-back (sum-fits (s .pre)), bend-reads-back c, reads-back (units-fit (s .pre)))
 
 pub units-of-spec : {M : Type 1} → statement M
-units-of-spec = tie.close (tie.spec add-result bend-requires add-result-2 returns)
+units-of-spec = tie.close (tie.spec add-result raised-bend-requires add-result-2 returns)

@@ -1,5 +1,5 @@
--- `scene::bend` meets its contract. What is rounded is raised by 2^20 times the divisor and is then a natural number; so its rounding is
--- 2^20 more than that of the definition, and this is taken off again. Assumes nothing.
+-- `scene::raised_bend` meets its contract. What is rounded is raised by 2^20 times the divisor and is then a natural number; so its rounding
+-- is 2^20 more than that of the definition. Assumes nothing.
 use mathlib.Core.Path.{_≡_, _∙_, ap}
 use mathlib.Core.List.{[], _∷_}
 use native.Mathlib.Nat.{le-trans}
@@ -10,14 +10,13 @@ use mir.Syntax.{w64}
 use mir.Val.{SFits}
 use Rattle.integers.specs.Rounding.{r}
 use Rattle.integers.specs.Bounds.{Bounded}
-use Rattle.integers.proofs.Ring.{_:+_, _:-_, ring, v0, v1}
-use Rattle.integers.proofs.Bounds.{bounded-sum, bounded-size, number-bounded}
+use Rattle.integers.proofs.Bounds.{bounded-size}
 use Rattle.integers.proofs.Machine.{bounded-fits, reads-back, natural-reads-back, unsigned-fits}
 use Rattle.integers.proofs.Nearest.{r-shifted}
 use Rattle.scene.specs.Steps.{bendOf}
-use Rattle.scene.proofs.Ranges.{rest-of-x-bounded, x-product-bounded, x-curve-bounded, raised-not-negative, raised-bounded, bend-bounded}
-use Rattle.scene.proofs.bend.Statement.{statement}
-use Rattle.scene.proofs.bend.Tie as tie
+use Rattle.scene.proofs.Ranges.{rest-of-x-bounded, x-product-bounded, x-curve-bounded, raised-not-negative, raised-bounded, raised-bend-bounded}
+use Rattle.scene.proofs.raised_bend.Statement.{statement}
+use Rattle.scene.proofs.raised_bend.Tie as tie
 
 module _ {x curve : ℤ} (h : Bounded x (pos 81920) × Bounded curve (pos 32768)) where
   rest-of-x-fits : SFits w64 (pos 65536 -ℤ x)
@@ -32,11 +31,8 @@ module _ {x curve : ℤ} (h : Bounded x (pos 81920) × Bounded curve (pos 32768)
   raised-fits : SFits w64 (x *ℤ (pos 65536 -ℤ x) *ℤ curve +ℤ pos 4503599627370496)
   raised-fits = bounded-fits (raised-bounded (h .0) (h .1)) (lit< tt)
 
-  bend-fits : SFits w64 (bendOf x curve)
-  bend-fits = bounded-fits (bend-bounded (h .0) (h .1)) (lit< tt)
-
   raised-bend-fits : SFits w64 (bendOf x curve +ℤ pos 1048576)
-  raised-bend-fits = bounded-fits (bounded-sum (bend-bounded (h .0) (h .1)) (number-bounded 1048576)) (lit< tt)
+  raised-bend-fits = bounded-fits (raised-bend-bounded (h .0) (h .1)) (lit< tt)
 
 sub-raised : tie.Need-sub-raised
 sub-raised c = rw (reads-back (c .fits .x)) (rest-of-x-fits (c .pre))
@@ -80,20 +76,14 @@ module _ (c : tie.After-round-natural) where
   result-fits : SFits w64 (pos (c .round-natural .result))
   result-fits = rw raised-bend-is (raised-bend-fits (c .before .pre))
 
-  bend-is : pos (c .round-natural .result) -ℤ pos 1048576 ≡ r product (pos 4294967296)
-  bend-is = ap (λ z. z -ℤ pos 1048576) raised-bend-is ∙ ring (r product (pos 4294967296) ∷ pos 1048576 ∷ []) (v0 :+ v1 :- v1) v0 tt
-
 cast-result : tie.Need-cast-result
 cast-result c = result-fits c
 
-sub-result : tie.Need-sub-result
-sub-result c = rw (natural-reads-back (c .round-natural .result) (result-fits c .sfits), bend-is c) (bend-fits (c .before .pre))
-
 returns : tie.Need-returns
-returns c = rw (natural-reads-back (c .round-natural .result) (result-fits c .sfits), bend-is c, reads-back (bend-fits (c .before .pre)))
+returns c = rw (natural-reads-back (c .round-natural .result) (result-fits c .sfits)) (raised-bend-is c)
 
-pub bend-spec : {M : Type 1} → statement M
-bend-spec =
+pub raised-bend-spec : {M : Type 1} → statement M
+raised-bend-spec =
     tie.close
     (tie.spec
     sub-raised
@@ -103,5 +93,4 @@ bend-spec =
     cast-round-natural
     round-natural-requires
     cast-result
-    sub-result
     returns)
