@@ -1,6 +1,5 @@
 -- The range of every number on the way to a scene. For a channel's constants N is within 51,136,960,500 at every count; where it is not
--- negative and 4N is at most 5D, X is within 81,920 and T within 1,832,984. The greatest signed number is N(Tw - Tc), below 10^17, so
--- each fits.
+-- negative and 4N is at most 5D, X is within 81,920. The greatest signed number is N(Tw - Tc), below 10^17, so each fits.
 use mathlib.Core.Path.{_≡_, ap, _∙_}
 use mathlib.Core.List.{[], _∷_}
 use Prim.Native.Nat.{ℕ, _≤_}
