@@ -14,7 +14,6 @@ use crate::check::lists::checked_outcomes;
 use crate::check::numbers::checked_division;
 use crate::check::outcomes::{outcomes, Outcome};
 use crate::check::samples::{count_samples, kept};
-use crate::check::six_numbers::{other_scenes, same_scenes, same_scenes_of_every_count};
 use crate::check::states::{
     checked_fresh, checked_state_feed, checked_state_run, outcome_of, probe, run_through_states,
     same_run, StateFunctions, StateOutcome,
@@ -43,6 +42,12 @@ use crate::second::calibrator::judge;
 use crate::second::record::ScanRecord;
 use crate::second::station::{calibrated, LaidOut};
 use crate::second::table::open;
+
+/// The checks of the six numbers take the implementation that feeds the lists as they are.
+pub use crate::check::six_numbers::{
+    other_scenes as one_number, same_scenes as six_numbers,
+    same_scenes_of_every_count as every_count,
+};
 
 fn same<T: PartialEq + Debug>(about: impl Debug, other: T, this: T) -> Result<(), String> {
     if other == this {
@@ -386,37 +391,6 @@ where
         same_state_outcome(&format!("feed {}", index + 1), other, this)?;
     }
     same_run(&other, &at_once(&list))
-}
-
-/// Channels with the same six numbers, in two lists: the same scenes of counts at the edges.
-pub fn six_numbers(
-    seed: u64,
-    other: impl Fn(&FeedList) -> Vec<Outcome>,
-    counters: &mut Counters,
-) -> Result<(), String> {
-    same_scenes(seed, other, counters)
-}
-
-/// The same of every count, through states.
-pub fn every_count<F, G>(
-    seed: u64,
-    functions: &StateFunctions<F, G>,
-    counters: &mut Counters,
-) -> Result<(), String>
-where
-    F: Fn(&[u8], &[u8], &mut [u8]) -> u8,
-    G: Fn(&mut [u8], &[u8], &mut [u8]) -> u8,
-{
-    same_scenes_of_every_count(seed, functions, counters)
-}
-
-/// Channels that differ in one of the six numbers: some count has another scene.
-pub fn one_number(
-    seed: u64,
-    other: impl Fn(&FeedList) -> Vec<Outcome>,
-    counters: &mut Counters,
-) -> Result<(), String> {
-    other_scenes(seed, other, counters)
 }
 
 #[cfg(test)]

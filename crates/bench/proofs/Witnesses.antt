@@ -272,8 +272,8 @@ module _ (buffer : List ℕ) (room : productSize ≤ length buffer) (c i : ℕ) 
 abbrev benchNumbers : List ℤ
 benchNumbers = pos 11166 ∷ pos 1107656 ∷ pos 400 ∷ pos 120000 ∷ pos 12 ∷ pos 120000 ∷ []
 
-sums-by-target : (earth : ℕ) → meansAt benchSettings (benchMoment earth) 0 ≡ meansAt benchSettings (benchMoment earth) 15 → ⊥
-sums-by-target earth same =
+target-sums-differ : (earth : ℕ) → meansAt benchSettings (benchMoment earth) 0 ≡ meansAt benchSettings (benchMoment earth) 15 → ⊥
+target-sums-differ earth same =
     let eight-is-seven : _≡_ {A = ℕ} 8 7 = ap (λ (m : Means). m .weights) (sym (bench-means earth 0 (lit< tt)) ∙ same ∙ bench-means earth 15 (lit< tt)) in
     omega arith
 
@@ -312,7 +312,7 @@ module _ (earth : ℕ) (buffer : List ℕ) (room : productSize ≤ length buffer
   -- though their sums differ
   pub sums-differ : meansAt (settingsOfFed (fed 0 (lit< tt))) (momentOfFed (fed 0 (lit< tt))) 0 ≡ meansAt (settingsOfFed (fed 15 (lit< tt))) (momentOfFed (fed 15 (lit< tt))) 15 → ⊥
   unfolding rolledBy
-  sums-differ = sums-by-target earth
+  sums-differ = target-sums-differ earth
 
   -- so that every count has the same T or the same mark
   pub both-targets-same : (count : ℕ) → count ≤ 65535 → fedScene (fed 0 (lit< tt)) (pos count) ≡ fedScene (fed 15 (lit< tt)) (pos count)
