@@ -27,7 +27,7 @@ use Rattle.calibrator.specs.Feeding.{Outcome}
 use Rattle.promise.specs.Restart.{rolledBy}
 use Rattle.promise.specs.Outcomes.{outcomeBy}
 use Rattle.promise.specs.Moments.{Moment, meansAt, dAt, nAt, tAt, countAt, productAt}
-use Rattle.promise.specs.SameScenes.{TOrMark, justT, flaggedMark, outsideMark, guardMark, flagAt, sceneBeforeBias, sixNumbers, settingsOfFed, momentOfFed, fedScene, SameScenes, Shows, ScenesShown}
+use Rattle.promise.specs.SameScenes.{TOrMark, justT, flaggedMark, outsideMark, guardMark, flagAt, sceneBeforeBias, sixNumbers, settingsOfFed, momentOfFed, fedSceneAt, SameScenes, Shows, ScenesShown}
 use Rattle.promise.proofs.SceneClaims.{scene, flag-zero-scene, flagged-scene, n-is-numerator, count, word-is, word-delivered, scene-claim}
 use Rattle.promise.proofs.RestartLaws.{left-by}
 
@@ -93,5 +93,5 @@ scenes-shown f bias file i inside =
     let s = settingsOfFed f in
     let m = momentOfFed f in
     let left = left-by table bias (f .before) (f .feed) ∙ ap (λ (v : Verdict). outcomeBy s (byBias (bias .bytes)) v (rolledBy [] (f .before)) (f .feed)) (f .feedAccepted) in
-    subst (λ (o : Outcome). Shows (o .buffer) (bias .bytes) (f .channel) i (fedScene f (countAt s m (f .channel) i))) (sym left)
+    subst (λ (o : Outcome). Shows (o .buffer) (bias .bytes) (f .channel) i (fedSceneAt f i)) (sym left)
     (shows s (bias .bytes) m (f .channel) i (accepted-ranges (f .tableAccepted)) file (f .isChannel) inside (drop productSize (f .feed .buffer)))

@@ -1,6 +1,6 @@
 -- Document 01, "Lists of feeds" and demand 3, and request W1, of one moment: the records that stand, and the record whose scenes are meant.
 -- Every product is made of one moment, the table and the bias file.
-use Prim.Native.Nat.{ℕ, _+_, _*_, _<_}
+use Prim.Native.Nat.{ℕ, _+_, _*_}
 use mathlib.Core.Path.{_≡_}
 use mathlib.Core.List.{List}
 use mathlib.Core.Bool.{Bool, true, false, not, _&&_}

@@ -76,6 +76,14 @@ module _ (f : FedChannel) where
   abbrev pub fedScene : ℤ → TOrMark
   fedScene = sceneBeforeBias settingsOfFed momentOfFed (f .channel)
 
+  -- of the record's own count at position i
+  abbrev pub fedSceneAt : ℕ → TOrMark
+  fedSceneAt i = fedScene (countAt settingsOfFed momentOfFed (f .channel) i)
+
+  -- what the feed leaves in its buffer, under a bias file
+  abbrev pub fedBuffer : Bias → List ℕ
+  fedBuffer bias = outcomeAfter (freshOf (record { bytes = f .table }) bias) (f .before) (f .feed) .buffer
+
 -- ---- the law: of two such channels with flag 0 that agree in the six numbers, every count has the same T or the same mark
 abbrev pub SameScenes : Type 0
 SameScenes =
@@ -92,5 +100,4 @@ Shows product bias c i guardMark = wordAt product c i ≡ bits Guard
 abbrev pub ScenesShown : Type 0
 ScenesShown =
     (f : FedChannel) (bias : Bias) → AcceptedBias (bias .bytes) → (i : ℕ) → i < positions
-    → Shows (outcomeAfter (freshOf (record { bytes = f .table }) bias) (f .before) (f .feed) .buffer) (bias .bytes) (f .channel) i
-    (fedScene f (countAt (settingsOfFed f) (momentOfFed f) (f .channel) i))
+    → Shows (fedBuffer f bias) (bias .bytes) (f .channel) i (fedSceneAt f i)

@@ -1,7 +1,6 @@
 -- `scene::raised_bend` meets its contract. What is rounded is raised by 2^20 times the divisor and is then a natural number; so its rounding
 -- is 2^20 more than that of the definition. Assumes nothing.
-use mathlib.Core.Path.{_≡_, _∙_, ap}
-use mathlib.Core.List.{[], _∷_}
+use mathlib.Core.Path.{_≡_, _∙_}
 use native.Mathlib.Nat.{le-trans}
 use lib.Dec.{lit<, lit≤}
 use lib.IntN.{ℤ, pos, _+ℤ_, _-ℤ_, _*ℤ_}
