@@ -1,6 +1,6 @@
 /* Feeds a file of scan records to the calibrator in one call and prints a line for each: `listing table.bin bias.bin
  * scans.bin`. The line of an accepted record is that of the listing program; that of a refused one names the
- * record, counted from 0, and where it begins in the file: `record 1 offset 4629 refused 6`. A refused table or bias
+ * record, counted from 0, and where it begins in the file: `record 1 offset 4648 refused 6`. A refused table or bias
  * file gives its line alone, with its name: `bias.bin refused 3`. */
 #include <stdio.h>
 #include <stdlib.h>

@@ -2,7 +2,7 @@
  *
  *     live table.bin bias.bin state.bin [COUNT] <scans >>products
  *
- * Records of 4,629 bytes come from standard input, however they arrive; a shorter rest is one record, which is
+ * Records of 4,648 bytes come from standard input, however they arrive; a shorter rest is one record, which is
  * refused with 4. The product of an accepted record, 8,706 bytes, is written to standard output before the next
  * record is read. A refused record gives a line on standard error, `record N offset B refused M`: it is the Nth of
  * this run's input, counted from 0, and begins at byte B of it. The program goes on from state.bin if there is
@@ -20,11 +20,11 @@
  *   - cuts off what may stand behind the last whole product, with which the program refuses to start:
  *         truncate -s $(($(stat -c %s products) / 8706 * 8706)) products
  *   - starts the program with the same state.bin and feeds it the scans behind the last number that the state
- *     accepted (4 bytes at 759), or simply all scans of the pass from its first on: those up to this number are
+ *     accepted (4 bytes at 1,422), or simply all scans of the pass from its first on: those up to this number are
  *     refused with 6, which changes nothing. A scan that is not fed again is a lost scan to the calibrator;
  *   - keeps one of two products with the same number (4 bytes at 3); they have the same bytes.
  *
- * Another table or bias file. A state has its table in it, at 14, and its bias file, at 2,663, and keeps both. If
+ * Another table or bias file. A state has its table in it, at 14, and its bias file, at 3,326, and keeps both. If
  * table.bin or bias.bin has other bytes, the program says which and refuses to start: to go on would leave the new
  * file unused, and to begin anew would empty the window, both without a word. The station moves state.bin away and
  * feeds the accepted records of the last seven numbers once more in front, whose products it drops.
@@ -49,7 +49,7 @@
 #include "sounder.h"
 
 /* Where the table and the bias file stand in a state. */
-enum { TABLE_AT = 14, BIAS_AT = 2663 };
+enum { TABLE_AT = 14, BIAS_AT = 3326 };
 
 /* Ends the program: something cannot be read or written. */
 static void failed(const char *name)

@@ -3,7 +3,7 @@
 ! `make install` installs (x86-64 Linux).
 !
 ! The functions are those of sounder.h, which says what each answers and writes; docs/RULES.md has the formats
-! and all rules. An array is passed as it is, or a part of it, as in records(1:4629): its size is the count
+! and all rules. An array is passed as it is, or a part of it, as in records(1:4648): its size is the count
 ! that C asks for, and it may be empty. What is written must not overlap anything else that the same call is
 ! given, which Fortran asks of arguments anyway.
 !
@@ -24,14 +24,14 @@ module sounder
     integer, parameter, public :: sounder_byte = c_int8_t
 
     ! The version of this module: 10000 * major + 100 * minor + patch.
-    integer, parameter, public :: sounder_version_number = 30000
+    integer, parameter, public :: sounder_version_number = 40000
 
-    integer, parameter, public :: sounder_table_bytes = 741
+    integer, parameter, public :: sounder_table_bytes = 1404
     integer, parameter, public :: sounder_bias_bytes = 8451
-    integer, parameter, public :: sounder_record_bytes = 4629
+    integer, parameter, public :: sounder_record_bytes = 4648
     integer, parameter, public :: sounder_product_bytes = 8706
     ! What sounder_state_size gives.
-    integer, parameter, public :: sounder_state_bytes = 11114
+    integer, parameter, public :: sounder_state_bytes = 11777
     ! The answer where the bytes are no state, or where a state has no room.
     integer, parameter, public :: sounder_no_state = 254
     ! In answers of sounder_feed_all: a feed that was not fed, since a length or bytes were missing.

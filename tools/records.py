@@ -14,14 +14,15 @@ import tempfile
 from collections import Counter, deque
 from itertools import chain, islice
 
-RECORD = 4_629
+RECORD = 4_648
 PRODUCT = 8_706
-TABLE = 741
+TABLE = 1_404
 BIAS = 8_451
 # Where the head of a field stands, and its tag and length.
-RECORD_HEADS = ((0, b'\x01\x00\x04'), (7, b'\x02\x00\x22'), (44, b'\x03\x00\xb0'), (223, b'\x04\x00\xb0'), (402, b'\x05\x10\x80'))
+RECORD_HEADS = ((0, b'\x01\x00\x04'), (7, b'\x02\x00\x22'), (44, b'\x03\x00\xb0'), (223, b'\x04\x00\xb0'), (402, b'\x05\x10\x80'),
+                (4_629, b'\x06\x00\x10'))
 PRODUCT_HEADS = ((0, b'\x20\x00\x04'), (7, b'\x21\x00\x16'), (32, b'\x22\x21\x00'), (8_483, b'\x23\x00\xdc'))
-TABLE_HEADS = ((0, b'\x10\x00\x25'), (40, b'\x11\x00\xff'), (298, b'\x12\x01\xb8'))
+TABLE_HEADS = ((0, b'\x10\x00\x25'), (40, b'\x11\x00\xff'), (298, b'\x12\x01\xb8'), (741, b'\x14\x02\x94'))
 BIAS_HEADS = ((0, b'\x13\x21\x00'),)
 HERE = os.path.dirname(os.path.abspath(__file__))
 PROGRAM = os.environ.get('CALIBRATE') or os.path.join(os.path.dirname(HERE), 'target', 'bin', 'calibrate')

@@ -12,6 +12,7 @@ use crate::check::counters::Counters;
 use crate::check::listings::{checked_listing, checked_stream};
 use crate::check::lists::checked_outcomes;
 use crate::check::numbers::checked_division;
+use crate::check::one_shelf::checked_one_shelf;
 use crate::check::outcomes::{outcomes, Outcome};
 use crate::check::samples::{count_samples, kept};
 use crate::check::states::{
@@ -249,6 +250,18 @@ pub fn feeds_under_zeros(
     same_outcomes("the list under zeros", &other(&list.under_zeros()), &this)
 }
 
+/// The answers and buffers of lists that differ in one shelf temperature.
+pub fn one_shelf(
+    seed: u64,
+    other: impl Fn(&FeedList) -> Vec<Outcome>,
+    counters: &mut Counters,
+) -> Result<(), String> {
+    for (index, (list, this)) in checked_one_shelf(seed, counters)?.iter().enumerate() {
+        same_outcomes(&format!("list {}", index + 1), &other(list), this)?;
+    }
+    Ok(())
+}
+
 /// The printed text of the listing program.
 pub fn listings(
     seed: u64,
@@ -401,12 +414,13 @@ mod tests {
     use crate::second::acceptance::thermometer_reading;
     use crate::second::bias::open_bias;
     use crate::second::listing::listing;
-    use crate::second::product::{flag_of, scene_of};
-    use crate::second::rounding::r;
+    use crate::second::product::scene_of;
+    use crate::second::rounding::{floor, r, Fraction};
     use crate::second::scene::{numerator, rounded_share};
+    use crate::second::shelf::{nonlinearity, unrounded_nonlinearity};
     use crate::second::state;
     use crate::second::station::feed_all;
-    use crate::second::table::Table;
+    use crate::second::table::{Shelf, ShelfPair, Table};
     use crate::second::thermometer::{
         measured, one_thermometer, Coefficients, Reading, HIGHEST_T, KELVIN_OF_ZERO_CELSIUS,
         LOWEST_T,
@@ -510,6 +524,53 @@ mod tests {
             |seed, counters| all_table_neighbours(seed, cut, counters),
             1
         ));
+    }
+
+    #[test]
+    fn tables_differ_where_a_test_of_nonlinearity_is_left_out() {
+        let right = |bytes: &[u8]| open(bytes).err().unwrap_or(0);
+        // Bytes that are taken as a table after a repair that no rule has.
+        type Repair = fn(&mut [u8]);
+        let repairs: [Repair; 6] = [
+            // The head of 0x14, the TNL of 0x12 of the last channel, the first shelf temperature, the last
+            // one, and the last TNL.
+            |bytes| bytes[741..744].copy_from_slice(&[0x14, 2, 148]),
+            |bytes| bytes[739..741].fill(0),
+            |bytes| {
+                if i32_at(bytes, 744) == -245_761 {
+                    bytes[744..748].copy_from_slice(&i32::to_be_bytes(-245_760));
+                }
+            },
+            |bytes| {
+                if i32_at(bytes, 1_398) == 245_761 {
+                    bytes[1_398..1_402].copy_from_slice(&i32::to_be_bytes(245_760));
+                }
+            },
+            |bytes| {
+                let inside = i16_at(bytes, 1_402).clamp(-8_192, 8_192);
+                bytes[1_402..].copy_from_slice(&inside.to_be_bytes());
+            },
+            // The last two shelf temperatures may be equal.
+            |bytes| {
+                if bytes[1_392..1_396] == bytes[1_398..1_402] {
+                    bytes[1_398..1_402].copy_from_slice(&i32::to_be_bytes(245_760));
+                }
+            },
+        ];
+        for (index, repair) in repairs.into_iter().enumerate() {
+            let wrong = |bytes: &[u8]| {
+                let mut repaired = bytes.to_vec();
+                if bytes.len() == 1_404 {
+                    repair(&mut repaired);
+                }
+                right(&repaired)
+            };
+            let found = finds(
+                |seed, counters| all_table_neighbours(seed, wrong, counters),
+                1,
+            );
+            assert!(found, "repair {index}");
+        }
     }
 
     #[test]
@@ -796,7 +857,7 @@ mod tests {
             let before = memory.to_vec();
             let answer = state::fresh(table, bias, memory);
             if answer == 0 {
-                memory[759..763].copy_from_slice(&before[759..763]);
+                memory[1_422..1_426].copy_from_slice(&before[1_422..1_426]);
             }
             answer
         };
@@ -806,7 +867,7 @@ mod tests {
         ));
         // The room is tested after table and bias file, and the bias file after the table.
         let wrong = |table: &[u8], bias: &[u8], memory: &mut [u8]| match memory.len() {
-            0..=11_113 if open(table).is_ok() => 254,
+            0..=11_776 if open(table).is_ok() => 254,
             _ => state::fresh(table, bias, memory),
         };
         assert!(finds(
@@ -832,7 +893,7 @@ mod tests {
         let wrong = |memory: &mut [u8], record: &[u8], buffer: &mut [u8]| {
             let answer = state::feed(memory, record, buffer);
             if answer == 0 {
-                memory[11_113] ^= 1;
+                memory[11_776] ^= 1;
             }
             answer
         };
@@ -884,7 +945,7 @@ mod tests {
         for repair in repairs {
             let wrong = |memory: &mut [u8], record: &[u8], buffer: &mut [u8]| {
                 let answer = state::feed(memory, record, buffer);
-                if answer != 254 || memory.len() < 11_114 {
+                if answer != 254 || memory.len() < 11_777 {
                     return answer;
                 }
                 let mut values = StateValues::decode(memory);
@@ -898,7 +959,7 @@ mod tests {
         }
         let no_version = |memory: &mut [u8], record: &[u8], buffer: &mut [u8]| {
             let mut repaired = memory.to_vec();
-            repaired[7..11].copy_from_slice(&[0, 0, 0, 3]);
+            repaired[7..11].copy_from_slice(&[0, 0, 0, 4]);
             state::feed(&mut repaired, record, buffer)
         };
         assert!(finds(
@@ -921,8 +982,9 @@ mod tests {
             fresh: state::fresh,
             feed: |memory: &mut [u8], record: &[u8], buffer: &mut [u8]| {
                 let answer = state::feed(memory, record, buffer);
-                if answer == 0 && memory[766 + 88..766 + 176].iter().all(|byte| *byte == 0) {
-                    memory.copy_within(766 + 176..1_470, 766 + 88);
+                let age_1 = 1_429 + 88..1_429 + 176;
+                if answer == 0 && memory[age_1.clone()].iter().all(|byte| *byte == 0) {
+                    memory.copy_within(age_1.end..2_133, age_1.start);
                 }
                 answer
             },
@@ -942,69 +1004,244 @@ mod tests {
         ));
     }
 
-    /// What a list leaves where each delivered scene of its last feed is made anew of the channel's sums and
-    /// the count.
-    fn with_last_scenes(
+    /// A channel of the feed whose record is the last of the roll.
+    struct ChannelOfFeed<'a> {
+        table: &'a Table,
+        roll: &'a [ScanRecord],
+        channel: usize,
+        sums: ChannelSums,
+    }
+
+    impl ChannelOfFeed<'_> {
+        /// N and D of a count.
+        fn place(&self, count: u16) -> (i128, i128) {
+            (numerator(&self.sums, count), self.sums.difference())
+        }
+
+        fn tw(&self) -> Fraction {
+            Fraction {
+                numerator: warm_temperature(self.table, self.channel, &self.sums),
+                denominator: 1,
+            }
+        }
+
+        fn pairs(&self) -> &[ShelfPair; 5] {
+            &self.table.channels[self.channel].shelf_pairs
+        }
+
+        /// The temperature of a shelf so many records before the last, or of the first record.
+        fn shelf(&self, shelf: Shelf, before: usize) -> i128 {
+            let index = (self.roll.len() - 1).saturating_sub(before);
+            self.roll[index].shelf_temperature(shelf) as i128
+        }
+
+        fn own_shelf(&self) -> i128 {
+            self.shelf(Shelf::of_channel(self.channel), 0)
+        }
+
+        fn unrounded_tnl(&self) -> Fraction {
+            unrounded_nonlinearity(self.pairs(), self.own_shelf())
+        }
+
+        fn tnl(&self) -> Fraction {
+            Fraction {
+                numerator: nonlinearity(self.pairs(), self.own_shelf()),
+                denominator: 1,
+            }
+        }
+
+        /// TNL where one channel, with this index from 0, takes another shelf.
+        fn tnl_of_channel(&self, channel: usize, shelf: Shelf) -> i128 {
+            if self.channel == channel {
+                nonlinearity(self.pairs(), self.shelf(shelf, 0))
+            } else {
+                self.tnl().numerator
+            }
+        }
+
+        /// T at N and D with fractions for Tw and TNL.
+        fn temperature(&self, (n, d): (i128, i128), tw: Fraction, tnl: Fraction) -> i128 {
+            let tc = cold_temperature(self.table, self.channel);
+            let x = rounded_share(n, d);
+            let rise = tw.numerator - tc * tw.denominator;
+            let curve = 4 * x * (65_536 - x) * tnl.numerator;
+            tc + r(n * rise, d * tw.denominator) + r(curve, tnl.denominator << 32)
+        }
+    }
+
+    type SceneOf = fn(&ChannelOfFeed, u16) -> i128;
+
+    /// What a list leaves where T of each delivered scene is made anew, in the feeds from this index on.
+    fn with_temperatures(
         list: &FeedList,
-        scene: impl Fn(&Table, usize, &ChannelSums, u16) -> i128,
+        first: usize,
+        scene: impl Fn(&ChannelOfFeed, u16) -> i128,
     ) -> Vec<Outcome> {
         let mut all = outcomes(list);
         let table = open(&list.table).unwrap();
+        let bias = open_bias(&list.bias).unwrap();
         let mut roll: Vec<ScanRecord> = Vec::new();
-        for feed in &list.feeds {
-            roll.extend(judge(&roll, &feed.record, feed.buffer.len()));
-        }
-        let window = window(&table, &roll);
-        let (record, product) = (&roll[roll.len() - 1], &mut all.last_mut().unwrap().buffer);
-        for channel in 0..22 {
-            assert_eq!(flag_of(product, channel), 0);
-            let sums = channel_sums(&table, &window, channel);
-            for (position, count) in record.earth_counts(channel).into_iter().enumerate() {
-                if scene_of(product, channel, position) > 0.0 {
-                    let at = 35 + 4 * (96 * channel + position);
-                    let kelvin = scene(&table, channel, &sums, count) as f32 / 4096.0;
-                    product[at..at + 4].copy_from_slice(&kelvin.to_be_bytes());
+        for (index, (feed, outcome)) in list.feeds.iter().zip(&mut all).enumerate() {
+            let Ok(record) = judge(&roll, &feed.record, feed.buffer.len()) else {
+                continue;
+            };
+            roll.push(record.clone());
+            if index < first {
+                continue;
+            }
+            let window = window(&table, &roll);
+            let product = &mut outcome.buffer;
+            for channel in 0..22 {
+                let own = ChannelOfFeed {
+                    table: &table,
+                    roll: &roll,
+                    channel,
+                    sums: channel_sums(&table, &window, channel),
+                };
+                for (position, count) in record.earth_counts(channel).into_iter().enumerate() {
+                    if scene_of(product, channel, position) > 0.0 {
+                        let at = 35 + 4 * (96 * channel + position);
+                        let b = bias.pair(channel, position).biased(scene(&own, count));
+                        let kelvin = b as f32 / 4096.0;
+                        product[at..at + 4].copy_from_slice(&kelvin.to_be_bytes());
+                    }
                 }
             }
         }
         all
     }
 
-    /// T of N and D, with a Tw that is a fraction in the linear term.
-    fn temperature_by(
-        table: &Table,
-        channel: usize,
-        (n, d): (i128, i128),
-        tw: (i128, i128),
-    ) -> i128 {
-        let tc = cold_temperature(table, channel);
-        let x = rounded_share(n, d);
-        let tnl = table.channels[channel].peak_nonlinearity;
-        tc + r(n * (tw.0 - tc * tw.1), d * tw.1) + r(4 * x * (65_536 - x) * tnl, 1 << 32)
+    /// Whether feeds of the first lists differ where TNL is taken in another way.
+    fn feeds_find(tnl: fn(&ChannelOfFeed) -> i128, seeds: u64) -> bool {
+        let scene = |own: &ChannelOfFeed, count: u16| {
+            let tnl = Fraction {
+                numerator: tnl(own),
+                denominator: 1,
+            };
+            own.temperature(own.place(count), own.tw(), tnl)
+        };
+        let other = |list: &FeedList| with_temperatures(list, 0, scene);
+        finds(|seed, counters| feeds(seed, other, counters), seeds)
+    }
+
+    #[test]
+    fn feeds_differ_where_the_line_is_rounded_in_another_way() {
+        assert!(!feeds_find(|own| own.tnl().numerator, 2));
+        let wrongs: [fn(&ChannelOfFeed) -> i128; 4] = [
+            // Down, halves down, halves away from 0, cut towards 0.
+            |own| {
+                let line = own.unrounded_tnl();
+                floor(line.numerator, line.denominator)
+            },
+            |own| {
+                let line = own.unrounded_tnl();
+                -r(-line.numerator, line.denominator)
+            },
+            |own| {
+                let line = own.unrounded_tnl();
+                line.numerator.signum() * r(line.numerator.abs(), line.denominator)
+            },
+            |own| {
+                let line = own.unrounded_tnl();
+                line.numerator / line.denominator
+            },
+        ];
+        for (index, wrong) in wrongs.into_iter().enumerate() {
+            assert!(feeds_find(wrong, 12), "way {index}");
+        }
+    }
+
+    #[test]
+    fn feeds_differ_where_the_line_is_another() {
+        let wrongs: [fn(&ChannelOfFeed) -> i128; 4] = [
+            // The last pair that is reached, the middle pair, 0x12.
+            |own| {
+                let reached = |pair: &&ShelfPair| pair.temperature <= own.own_shelf();
+                let last = own.pairs().iter().rfind(reached);
+                last.unwrap_or(&own.pairs()[0]).nonlinearity
+            },
+            |own| own.pairs()[2].nonlinearity,
+            |own| own.table.channels[own.channel].zero_nonlinearity,
+            // The line goes on beyond the first pair, as far as TNL may be.
+            |own| {
+                let (pairs, shelf) = (own.pairs(), own.own_shelf());
+                if shelf >= pairs[0].temperature {
+                    return own.tnl().numerator;
+                }
+                let rise = pairs[1].nonlinearity - pairs[0].nonlinearity;
+                let units = pairs[1].temperature - pairs[0].temperature;
+                let beyond = r(rise * (shelf - pairs[0].temperature), units);
+                (pairs[0].nonlinearity + beyond).clamp(-8_192, 8_192)
+            },
+        ];
+        for (index, wrong) in wrongs.into_iter().enumerate() {
+            assert!(feeds_find(wrong, 12), "way {index}");
+        }
+    }
+
+    #[test]
+    fn feeds_differ_where_another_shelf_is_taken() {
+        let wrongs: [fn(&ChannelOfFeed) -> i128; 2] = [
+            // That of the record before, and that of the first.
+            |own| nonlinearity(own.pairs(), own.shelf(Shelf::of_channel(own.channel), 1)),
+            |own| {
+                let first = own.shelf(Shelf::of_channel(own.channel), own.roll.len());
+                nonlinearity(own.pairs(), first)
+            },
+        ];
+        for (index, wrong) in wrongs.into_iter().enumerate() {
+            assert!(feeds_find(wrong, 12), "way {index}");
+        }
+        // A channel at the end of its band takes the shelf of the next band.
+        let bands: [fn(&ChannelOfFeed) -> i128; 6] = [
+            |own| own.tnl_of_channel(1, Shelf::V),
+            |own| own.tnl_of_channel(2, Shelf::Kka),
+            |own| own.tnl_of_channel(14, Shelf::W),
+            |own| own.tnl_of_channel(15, Shelf::V),
+            |own| own.tnl_of_channel(15, Shelf::G),
+            |own| own.tnl_of_channel(16, Shelf::W),
+        ];
+        for (index, wrong) in bands.into_iter().enumerate() {
+            assert!(feeds_find(wrong, 12), "band {index}");
+        }
+    }
+
+    #[test]
+    fn one_shelf_differs_where_the_shelf_is_not_the_scans_own() {
+        assert!(!finds(
+            |seed, counters| one_shelf(seed, outcomes, counters),
+            1
+        ));
+        let before: SceneOf = |own, count| {
+            let shelf = own.shelf(Shelf::of_channel(own.channel), 1);
+            let tnl = unrounded_nonlinearity(own.pairs(), shelf);
+            own.temperature(own.place(count), own.tw(), tnl)
+        };
+        let wrong = |list: &FeedList| with_temperatures(list, 0, before);
+        assert!(finds(|seed, counters| one_shelf(seed, wrong, counters), 1));
     }
 
     #[test]
     fn six_numbers_differ_where_a_scene_takes_more_from_its_channel() {
-        type SceneOf = fn(&Table, usize, &ChannelSums, u16) -> i128;
-        let right: SceneOf = |table, channel, sums, count| {
-            let nd = (numerator(sums, count), sums.difference());
-            let tw = warm_temperature(table, channel, sums);
-            temperature_by(table, channel, nd, (tw, 1))
+        let right: SceneOf = |own, count| own.temperature(own.place(count), own.tw(), own.tnl());
+        // Tw is not rounded, though the six numbers have it rounded; and likewise TNL.
+        let unrounded_tw: SceneOf = |own, count| {
+            let tw = unrounded_warm_temperature(own.table, own.channel, &own.sums);
+            own.temperature(own.place(count), tw, own.tnl())
         };
-        // Tw is not rounded, though the six numbers have it rounded.
-        let unrounded: SceneOf = |table, channel, sums, count| {
-            let nd = (numerator(sums, count), sums.difference());
-            let tw = unrounded_warm_temperature(table, channel, sums);
-            temperature_by(table, channel, nd, (tw.numerator, tw.denominator))
-        };
+        let unrounded_tnl: SceneOf =
+            |own, count| own.temperature(own.place(count), own.tw(), own.unrounded_tnl());
         // WG has a unit more.
-        let of_target: SceneOf = |table, channel, sums, count| {
-            let nd = (numerator(sums, count), sums.difference());
-            let tw = warm_temperature(table, channel, sums);
-            i128::from(channel >= 15) + temperature_by(table, channel, nd, (tw, 1))
+        let of_target: SceneOf = |own, count| {
+            i128::from(own.channel >= 15) + own.temperature(own.place(count), own.tw(), own.tnl())
         };
-        for (scene, is_wrong) in [(right, false), (unrounded, true), (of_target, true)] {
-            let other = |list: &FeedList| with_last_scenes(list, scene);
+        for (scene, is_wrong) in [
+            (right, false),
+            (unrounded_tw, true),
+            (unrounded_tnl, true),
+            (of_target, true),
+        ] {
+            let other = |list: &FeedList| with_temperatures(list, list.feeds.len() - 1, scene);
             let found = finds(|seed, counters| six_numbers(seed, other, counters), 6);
             assert_eq!(found, is_wrong);
         }
@@ -1033,31 +1270,30 @@ mod tests {
             |seed, counters| one_number(seed, outcomes, counters),
             1
         ));
-        // The last bit of rj, b and TNL, each in all channels.
-        for place in [15, 13, 19] {
+        // The last bit of rj, of b and of the TNL of a pair, each in all channels.
+        for (rows, step, place) in [(301..741, 20, 15), (301..741, 20, 13), (744..1_404, 6, 5)] {
             let wrong = |list: &FeedList| {
                 let mut other = list.clone();
-                for row in other.table[301..741].chunks_mut(20) {
+                for row in other.table[rows.clone()].chunks_mut(step) {
                     row[place] &= 0xfe;
                 }
                 outcomes(&other)
             };
             let found = finds(|seed, counters| one_number(seed, wrong, counters), 1);
-            assert!(found, "byte {place}");
+            assert!(found, "byte {place} of {rows:?}");
         }
         // The last bit of D, of Wc × Ww and of Ac × Ww.
         for place in 0..3 {
-            let scene = |table: &Table, channel: usize, sums: &ChannelSums, count: u16| {
-                let (warm, cold) = (&sums.warm, &sums.cold);
+            let scene = |own: &ChannelOfFeed, count: u16| {
+                let (warm, cold) = (&own.sums.warm, &own.sums.cold);
                 let (weights, base) = (cold.weight * warm.weight, cold.value * warm.weight);
-                let mut numbers = [sums.difference(), weights, base];
+                let mut numbers = [own.sums.difference(), weights, base];
                 numbers[place] &= !1;
                 let [d, weights, base] = numbers;
-                let tw = warm_temperature(table, channel, sums);
                 let n = 12 * weights * count as i128 - base;
-                temperature_by(table, channel, (n, d), (tw, 1))
+                own.temperature((n, d), own.tw(), own.tnl())
             };
-            let wrong = |list: &FeedList| with_last_scenes(list, scene);
+            let wrong = |list: &FeedList| with_temperatures(list, list.feeds.len() - 1, scene);
             let found = finds(|seed, counters| one_number(seed, wrong, counters), 1);
             assert!(found, "number {place}");
         }

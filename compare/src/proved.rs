@@ -235,7 +235,7 @@ fn kept(table: &[u8], scan: &[u8]) -> Vec<u32> {
 
 /// Value k of what a record keeps; all are worked out for it.
 pub fn kept_value(table: &[u8], scan: &[u8], k: usize) -> u32 {
-    assert!(table.len() == 741 && scan.len() == 4_629 && k < 59);
+    assert!(table.len() == 1_404 && scan.len() == 4_648 && k < 59);
     assert!(layout_is_right(scan, &RECORD));
     unsafe { compared_kept(table.as_ptr(), table.len(), scan.as_ptr(), scan.len(), k) }
 }
@@ -499,7 +499,7 @@ fn calibrate(input: &ListingInput) -> (Vec<u8>, String) {
 }
 
 /// The comparisons by the name that `--case` takes, and how many cases of each are run for a thousand.
-pub const KINDS: [(&str, Check, u64); 26] = [
+pub const KINDS: [(&str, Check, u64); 27] = [
     (
         "floor_div",
         |seed, counters| against::divisions(seed, floor_div, counters),
@@ -556,6 +556,11 @@ pub const KINDS: [(&str, Check, u64); 26] = [
         "zeros",
         |seed, counters| against::feeds_under_zeros(seed, outcomes_at_once, counters),
         10,
+    ),
+    (
+        "one_shelf",
+        |seed, counters| against::one_shelf(seed, outcomes_at_once, counters),
+        5,
     ),
     (
         "one_call",

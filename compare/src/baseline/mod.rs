@@ -6,6 +6,8 @@ mod bytes;
 
 mod thermometer;
 
+mod shelf;
+
 mod table;
 
 mod bias;

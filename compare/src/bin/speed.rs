@@ -150,9 +150,9 @@ fn products() {
     report("one product", MICROSECONDS, &BY_HAND, &times, Some(0.55));
 }
 
-/// Consecutive bench scans with earth counts at random between the cold and the warm counts, under the
-/// bench table with a weight for each age and a bias file at random: from the eighth scan on the window is
-/// full, and every scene is delivered.
+/// Consecutive bench scans with earth counts at random between the cold and the warm counts and shelf
+/// temperatures at random, under the bench table with a weight for each age, a TNL that falls from pair to
+/// pair, and a bias file at random: from the eighth scan on the window is full, and every scene is delivered.
 fn scans(count: usize) -> FeedList {
     let mut random = Random::new(1);
     let mut table = TableValues::bench();
@@ -161,12 +161,18 @@ fn scans(count: usize) -> FeedList {
     table.warm_percentage = 20;
     table.cold_percentage = 20;
     table.thermometer_percentage = 20;
+    for channel in &mut table.channels {
+        for (pair, tnl) in channel.shelf_pairs.iter_mut().zip([800, 600, 400, 200, 0]) {
+            pair.nonlinearity = tnl;
+        }
+    }
     let mut values = RecordValues::bench();
     let feeds = (1..=count)
         .map(|number| {
             values.number = number as u32;
+            values.shelves = [0; 4].map(|_: i32| random.between(-245_760, 245_760) as i32);
             let mut record = values.encode();
-            for earth in record[405..].chunks_exact_mut(2) {
+            for earth in record[405..4_629].chunks_exact_mut(2) {
                 earth.copy_from_slice(&(random.between(10_000, 20_000) as u16).to_be_bytes());
             }
             Feed {
@@ -300,7 +306,7 @@ fn parts() {
     let feeds = scans(COUNT);
     let mut list = lay_out(&feeds);
     let record = &feeds.feeds[0].record;
-    let earth = &record[405..];
+    let earth = &record[405..4_629];
     let pairs = proved::Pairs::of(&feeds.bias);
     let (mut product, mut scenes) = (vec![0; LENGTH], vec![0; 2 * earth.len()]);
     let times = least_times(

@@ -2,6 +2,22 @@
 
 use std::collections::BTreeMap;
 
+const CHANNEL_NUMBERS: &[&str] = &[
+    "1", "2", "3", "4", "5", "6", "7", "8", "9", "10", "11", "12", "13", "14", "15", "16", "17",
+    "18", "19", "20", "21", "22",
+];
+
+/// What pairs of a channel may have.
+const PAIR_CLASSES: &[&str] = &[
+    "one unit apart",
+    "four times one unit apart",
+    "491517 apart",
+    "first at -245760",
+    "last at 245760",
+    "TNL -8192",
+    "TNL 8192",
+];
+
 /// All classes, by group. Every one must be met in a run of the default size.
 pub const CLASSES: &[(&str, &[&str])] = &[
     (
@@ -9,6 +25,26 @@ pub const CLASSES: &[(&str, &[&str])] = &[
         &["exact", "not exact", "negative", "half", "negative half"],
     ),
     ("table answer", &["accepted", "1", "2", "3"]),
+    ("table length", &["0", "741", "1403", "1405"]),
+    ("pairs of an accepted table", PAIR_CLASSES),
+    (
+        "one wrong value of TNL",
+        &[
+            "equal temperatures",
+            "temperatures falling by 1",
+            "temperatures falling",
+            "temperature -245761",
+            "temperature 245761",
+            "temperature farther outside",
+            "TNL -8193",
+            "TNL 8193",
+            "TNL farther outside",
+            "TNL of 0x12 -1",
+            "TNL of 0x12 1",
+            "TNL of 0x12 other",
+        ],
+    ),
+    ("channel of a wrong value of TNL", CHANNEL_NUMBERS),
     ("bias answer", &["accepted", "1", "2", "3"]),
     (
         "two refusals of a bias file",
@@ -89,7 +125,7 @@ pub const CLASSES: &[(&str, &[&str])] = &[
         "two refusals",
         &["4 and 7", "5 and 6", "5 and 7", "6 and 7"],
     ),
-    ("record length", &["0", "1", "4628", "4630"]),
+    ("record length", &["0", "1", "4629", "4647", "4649"]),
     ("first number", &["0", "4294967295", "other"]),
     (
         "number ahead",
@@ -216,6 +252,73 @@ pub const CLASSES: &[(&str, &[&str])] = &[
         "thermometers behind delivered scenes",
         &["below 0", "at or above 0", "on both sides of 0"],
     ),
+    (
+        "shelf of delivered scenes",
+        &[
+            "one below pair 1",
+            "at pair 1",
+            "one above pair 1",
+            "one below pair 2",
+            "at pair 2",
+            "one above pair 2",
+            "one below pair 3",
+            "at pair 3",
+            "one above pair 3",
+            "one below pair 4",
+            "at pair 4",
+            "one above pair 4",
+            "one below pair 5",
+            "at pair 5",
+            "one above pair 5",
+            "between two pairs",
+            "below all pairs",
+            "above all pairs",
+            "at the lower end of i32",
+            "at the upper end of i32",
+        ],
+    ),
+    ("pairs of delivered scenes", PAIR_CLASSES),
+    (
+        "line between two pairs",
+        &[
+            "level",
+            "rising",
+            "falling",
+            "from -8192 to 8192",
+            "from 8192 to -8192",
+            "through 0",
+            "over 491517 units",
+        ],
+    ),
+    (
+        "rounding of TNL",
+        &[
+            "exact, at or above 0",
+            "exact, below 0",
+            "down, at or above 0",
+            "down, below 0",
+            "half, at or above 0",
+            "half, below 0",
+            "up, at or above 0",
+            "up, below 0",
+            "-1/2 to 0",
+        ],
+    ),
+    (
+        "one shelf apart",
+        &[
+            "lists compared",
+            "feeds after it",
+            "other channels",
+            "own channels, same TNL",
+            "own channels, other TNL",
+            "KKA alone",
+            "V alone",
+            "W alone",
+            "G alone",
+        ],
+    ),
+    ("channel moved by its shelf", CHANNEL_NUMBERS),
     ("summary", &["0 delivered", "1 to 95", "96"]),
     (
         "restart",
@@ -320,9 +423,9 @@ pub const CLASSES: &[(&str, &[&str])] = &[
     ),
     (
         "state length",
-        &["0", "2660", "11113", "11114", "11115", "longer"],
+        &["0", "3323", "11114", "11776", "11777", "11778", "longer"],
     ),
-    ("version of a state", &["0", "1", "2", "3", "4"]),
+    ("version of a state", &["0", "1", "2", "3", "4", "5"]),
     ("c0 of a state", &["-4097", "-4096", "4096", "4097"]),
     ("e of a state", &["-32768", "32767"]),
     ("first byte of 0x32", &["0", "1", "2", "255"]),
@@ -363,6 +466,9 @@ pub const CLASSES: &[(&str, &[&str])] = &[
             "other thermometer weights",
             "other percentages",
             "other limits",
+            "other shelf temperature",
+            "other pairs",
+            "other unrounded TNL",
             "other scan number",
             "other missing numbers",
             "other number of records",

@@ -97,14 +97,14 @@ pub fn checked_stream(
         record: record.to_vec(),
         buffer: vec![0; LENGTH],
     };
-    let feeds: Vec<Feed> = input.input.chunks(4_629).map(feed).collect();
+    let feeds: Vec<Feed> = input.input.chunks(4_648).map(feed).collect();
     if feeds.is_empty() {
         counters.met("program input", "empty input");
     }
-    if input.input.len() % 4_629 != 0 {
+    if input.input.len() % 4_648 != 0 {
         counters.met("program input", "short last record");
     }
-    if input.input.len() / 4_629 >= 12 {
+    if input.input.len() / 4_648 >= 12 {
         counters.met("program input", "12 or more records");
     }
     let list = FeedList {

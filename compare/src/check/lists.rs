@@ -21,7 +21,7 @@ use crate::second::window::window_records;
 pub(super) fn refusals(feed: &Feed, last: Option<u32>) -> Vec<u8> {
     let mut all = Vec::new();
     let record = &feed.record;
-    if record.len() != 4_629 {
+    if record.len() != 4_648 {
         all.push(4);
     } else {
         let heads = [
@@ -30,6 +30,7 @@ pub(super) fn refusals(feed: &Feed, last: Option<u32>) -> Vec<u8> {
             (44, [3, 0, 176]),
             (223, [4, 0, 176]),
             (402, [5, 16, 128]),
+            (4_629, [6, 0, 16]),
         ];
         if heads.iter().any(|(at, head)| record[*at..at + 3] != *head) {
             all.push(5);
@@ -54,7 +55,7 @@ fn count_feed(feed: &Feed, last: Option<u32>, all: &[u8], counters: &mut Counter
     if all.len() >= 2 {
         counters.met("two refusals", &format!("{} and {}", all[0], all[1]));
     }
-    if let length @ (0 | 1 | 4_628 | 4_630) = feed.record.len() {
+    if let length @ (0 | 1 | 4_629 | 4_647 | 4_649) = feed.record.len() {
         counters.met("record length", &length.to_string());
     }
     match feed.buffer.len() {

@@ -10,6 +10,8 @@ pub mod biases;
 
 pub mod thermometers;
 
+pub mod shelves;
+
 pub mod rules;
 
 pub mod samples;
@@ -21,6 +23,8 @@ pub mod outcomes;
 pub mod lists;
 
 pub mod twins;
+
+pub mod one_shelf;
 
 pub mod zeros;
 

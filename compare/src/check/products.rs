@@ -4,10 +4,12 @@ use std::collections::BTreeMap;
 
 use super::counters::Counters;
 use super::rules::{self, Pair};
+use super::shelves::{count_shelf, Line, ShelfAndPairs};
 use crate::second::bytes::layout_is_right;
 use crate::second::product::{flag_of, number_of, scene_of, summary_of, LAYOUT};
 use crate::second::record::{ScanRecord, SCENES};
 use crate::second::rounding::r;
+use crate::second::shelf::nonlinearity_for_scan;
 use crate::second::table::{Table, CHANNELS};
 
 /// A delivered scene: B in kelvin, and T in units.
@@ -23,6 +25,9 @@ struct ChannelCheck<'a> {
     bias: &'a [u8],
     channel: usize,
     sums: rules::Sums,
+    line: Line,
+    /// The whole TNL.
+    tnl: i128,
     /// The channel's weight sums suffice and its mean warm count is above its mean cold.
     usable: bool,
 }
@@ -76,30 +81,30 @@ impl ChannelCheck<'_> {
             return Err(format!("{kelvin} is no temperature"));
         }
         let b = units as i128;
-        let e = rules::exact(self.table, self.channel, &self.sums, count);
-        let biased = e.biased(pair);
-        if !biased.is_near(b, 7) {
-            return Err(format!("{b} units are more than 7/2 from equation 30"));
+        let e = rules::exact(self.table, self.channel, &self.sums, &self.line, count);
+        let near_equation_30 = |sixteenths| rules::is_near_equation_30(&e, b, pair, sixteenths);
+        if !near_equation_30(71) {
+            return Err(format!("{b} units are more than 71/16 from equation 30"));
         }
-        let t = rules::temperature(self.table, self.channel, &self.sums, count);
-        if !e.is_near(t, 4) {
-            return Err(format!("T {t} is more than 2 from E"));
+        let t = rules::temperature(self.table, self.channel, &self.sums, self.tnl, count);
+        if !rules::is_near(&e, t, 21) {
+            return Err(format!("T {t} is more than 21/8 from E"));
         }
         if !rules::is_biased(b, t, pair) {
             return Err(format!("{b} units are not T {t} with {pair:?}"));
         }
         let near = |near: bool, classes: [&'static str; 2]| classes[usize::from(!near)];
-        let class = near(e.is_near(t, 2), ["within 1 of E", "beyond 1 of E"]);
+        let class = near(rules::is_near(&e, t, 8), ["within 1 of E", "beyond 1 of E"]);
         counters.met("rounding of a scene", class);
         let classes = ["within 2 of equation 30", "beyond 2 of equation 30"];
-        counters.met("scan bias", near(biased.is_near(b, 4), classes));
+        counters.met("scan bias", near(near_equation_30(32), classes));
         count_bias(t, pair, counters);
         Ok(t)
     }
 
     fn count_halves(&self, n: i128, d: i128, counters: &mut Counters) {
         let x = r(65_536 * n, d);
-        let term = 4 * x * (65_536 - x) * self.table.channels[self.channel].peak_nonlinearity;
+        let term = 4 * x * (65_536 - x) * self.tnl;
         let half = term.rem_euclid(1 << 32) == 1 << 31;
         if half && term < 0 {
             counters.met("rounding of a scene", "half of a negative");
@@ -220,11 +225,20 @@ fn check_channel(
     }
     counters.met("flag", &flag.to_string());
 
+    let shelf = ShelfAndPairs::of(&table.bytes, record.bytes(), channel);
+    let line = shelf.line();
+    let tnl = nonlinearity_for_scan(table, record, channel);
+    if !line.is_rounded_to(tnl) {
+        let channel = channel + 1;
+        return Err(format!("channel {channel}: TNL {tnl} of {shelf:?}"));
+    }
     let check = ChannelCheck {
         table,
         bias,
         channel,
         sums,
+        line,
+        tnl,
         usable: suffice && d > 0,
     };
     let mut delivered = Vec::new();
@@ -241,6 +255,9 @@ fn check_channel(
         counters.met_times("scene", &mark, times);
     }
     count_moved_ends(&delivered, counters);
+    if !delivered.is_empty() {
+        count_shelf(&shelf, counters);
+    }
     let summary = summary_of(product, channel);
     let kelvin = || delivered.iter().map(|one| one.kelvin);
     let lowest = kelvin().reduce(f32::min).unwrap_or(-1.0);
@@ -310,19 +327,36 @@ mod tests {
     use crate::second::table::open;
     use crate::second::window::window;
 
+    /// The product of a record that is fed first.
+    fn product_of(table: &TableValues, bias: &BiasValues, record: &RecordValues) -> Vec<u8> {
+        let table = open(&table.encode()).unwrap();
+        let bias = open_bias(&bias.encode()).unwrap();
+        let record = ScanRecord::read(&record.encode()).unwrap();
+        let window = window(&table, &[record.clone()]);
+        product(&table, &bias, &record, &window)
+    }
+
+    /// Checks bytes as the product of a record that is fed first.
+    fn checked_as(
+        product: &[u8],
+        table: &TableValues,
+        bias: &BiasValues,
+        record: &RecordValues,
+    ) -> Result<(), String> {
+        let table = open(&table.encode()).unwrap();
+        let record = ScanRecord::read(&record.encode()).unwrap();
+        let values = rules::scan_values(&accepted_samples(&table, &record));
+        let accepted = BTreeMap::from([(record.number(), values)]);
+        let (bias, mut counters) = (bias.encode(), Counters::new());
+        check_product(&table, &bias, &record, product, &accepted, &mut counters)
+    }
+
     /// The bench product under a bias file, with some bytes changed, checked again.
     fn checked(bias: &BiasValues, change: impl Fn(&mut [u8])) -> Result<(), String> {
-        let table = open(&TableValues::bench().encode()).unwrap();
-        let bytes = bias.encode();
-        let bias = open_bias(&bytes).unwrap();
-        let record = ScanRecord::read(&RecordValues::bench().encode()).unwrap();
-        let window = window(&table, &[record.clone()]);
-        let mut product = product(&table, &bias, &record, &window);
+        let (table, record) = (TableValues::bench(), RecordValues::bench());
+        let mut product = product_of(&table, bias, &record);
         change(&mut product);
-        let values = rules::scan_values(&accepted_samples(&table, &record));
-        let accepted = BTreeMap::from([(7, values)]);
-        let mut counters = Counters::new();
-        check_product(&table, &bytes, &record, &product, &accepted, &mut counters)
+        checked_as(&product, &table, bias, &record)
     }
 
     /// The same with other units in the first scene.
@@ -343,12 +377,12 @@ mod tests {
     fn every_part_of_a_product_is_checked() {
         let zeros = BiasValues::zeros();
         let scene = |value: f32| checked(&zeros, |product| put_scene(product, value));
-        // 565,394 units are right, and are E. 3 more are near enough to it, but not T.
-        for units in [565_391, 565_393, 565_395, 565_397] {
+        // 565,394 units are right, and are E. 4 more are near enough to it, but not T.
+        for units in [565_390, 565_393, 565_395, 565_398] {
             assert!(with_units(&zeros, units).unwrap_err().contains("not T"));
         }
-        for units in [565_390, 565_398] {
-            assert!(with_units(&zeros, units).unwrap_err().contains("7/2"));
+        for units in [565_389, 565_399] {
+            assert!(with_units(&zeros, units).unwrap_err().contains("71/16"));
         }
         assert!(scene(-1.0).unwrap_err().contains("no temperature"));
         assert!(scene(-3.0).unwrap_err().contains("no temperature"));
@@ -363,6 +397,40 @@ mod tests {
     }
 
     #[test]
+    fn the_shelf_of_each_channel_is_checked() {
+        // TNL falls by 1 in 122,880 units, from 402 to 398.
+        let mut table = TableValues::bench();
+        for channel in &mut table.channels {
+            for (pair, tnl) in channel
+                .shelf_pairs
+                .iter_mut()
+                .zip([402, 401, 400, 399, 398])
+            {
+                pair.nonlinearity = tnl;
+            }
+        }
+        let (zeros, bench) = (BiasValues::zeros(), RecordValues::bench());
+        let with_shelf = |place: usize, temperature: i32| {
+            let mut record = bench.clone();
+            record.shelves[place] = temperature;
+            let product = product_of(&table, &zeros, &record);
+            checked_as(&product, &table, &zeros, &bench)
+        };
+        for (place, first_channel) in [(0, 1), (1, 3), (2, 16), (3, 17)] {
+            // Up to half way TNL stays 400.
+            for temperature in [-61_439, 0, 61_440] {
+                assert_eq!(with_shelf(place, temperature), Ok(()));
+            }
+            for temperature in [-61_440, 61_441] {
+                let said = with_shelf(place, temperature).unwrap_err();
+                let channel = format!("channel {first_channel} count 15000: ");
+                assert!(said.starts_with(&channel), "{said}");
+                assert!(said.contains("not T"), "{said}");
+            }
+        }
+    }
+
+    #[test]
     fn the_bias_of_each_scene_is_checked() {
         let mut bias = BiasValues::zeros();
         bias.pairs[0][0] = PairValues { c0: -7, e: -16_384 };
@@ -372,7 +440,7 @@ mod tests {
             assert!(with_units(&bias, units).unwrap_err().contains("not T"));
         }
         for units in [424_034, 424_043, 565_394] {
-            assert!(with_units(&bias, units).unwrap_err().contains("7/2"));
+            assert!(with_units(&bias, units).unwrap_err().contains("71/16"));
         }
         // The summary is that of the scenes after scan bias.
         let without = |product: &mut [u8]| {

@@ -8,6 +8,7 @@ use super::counters::Counters;
 use super::listings::check_listing;
 use super::lists::check_list;
 use super::numbers::check_divisions;
+use super::one_shelf::check_one_shelf;
 use super::six_numbers::{check_every_count, check_one_number, check_six_numbers};
 use super::states::{
     check_fresh, check_state_bytes, check_state_feed, check_state_neighbours, check_state_run,
@@ -21,7 +22,7 @@ use crate::generator::random::case_seed;
 pub type Check = fn(u64, &mut Counters) -> Result<(), String>;
 
 /// The kinds of cases, by the name that `--case` takes.
-pub const KINDS: [(&str, Check); 18] = [
+pub const KINDS: [(&str, Check); 19] = [
     ("division", check_divisions),
     ("neighbours", check_neighbours),
     ("table", check_table),
@@ -30,6 +31,7 @@ pub const KINDS: [(&str, Check); 18] = [
     ("thermometer", check_thermometer),
     ("list", check_list),
     ("zeros", check_zeros),
+    ("one_shelf", check_one_shelf),
     ("one_call", check_call),
     ("listing", check_listing),
     ("fresh", check_fresh),
@@ -107,6 +109,7 @@ pub fn run_all(seed: u64, feeds: u64, counters: &mut Counters) -> Result<(), Fai
             "table" | "bias" => feeds / 3 + 1,
             "thermometer" => 5 * feeds,
             "zeros" => feeds / 100 + 1,
+            "one_shelf" => feeds / 200 + 1,
             "one_call" => feeds / 80 + 1,
             "listing" => feeds / 25 + 1,
             "fresh" => feeds / 10 + 1,

@@ -4,6 +4,7 @@
 
 use super::counters::Counters;
 use super::outcomes::{outcomes, Outcome};
+use super::shelves::ShelfAndPairs;
 use super::states::StateFunctions;
 use crate::generator::lists::FeedList;
 use crate::generator::random::{case_seed, Random};
@@ -16,6 +17,7 @@ use crate::second::calibrator::judge;
 use crate::second::product::{flag_of, scene_of, LENGTH};
 use crate::second::record::{ScanRecord, SCENES};
 use crate::second::scene::{scene_without_bias, temperature};
+use crate::second::shelf::nonlinearity_for_scan;
 use crate::second::state;
 use crate::second::table::{open, Limits, Table, Target, CHANNELS, SIDES};
 use crate::second::window::{channel_sums, flag, window, window_records, ChannelSums, WindowScan};
@@ -56,8 +58,8 @@ impl LastFeed {
         (0..CHANNELS).map(|channel| self.channel(channel))
     }
 
-    fn number(&self) -> Option<u32> {
-        self.roll.last().map(ScanRecord::number)
+    fn record(&self) -> &ScanRecord {
+        self.roll.last().expect("the last feed is accepted")
     }
 
     fn ages(&self) -> Vec<usize> {
@@ -92,17 +94,25 @@ impl ChannelOfFeed<'_> {
 
     /// The six numbers, if the flag is 0.
     fn numbers(&self) -> Result<SixNumbers, String> {
+        let (table, record) = (&self.feed.table, self.feed.record());
         match self.flag() {
-            0 => Ok(SixNumbers::of(&self.feed.table, self.channel, &self.sums)),
+            0 => Ok(SixNumbers::of(table, record, self.channel, &self.sums)),
             flag => Err(format!("channel {} has flag {flag}", self.channel + 1)),
         }
+    }
+
+    /// The shelf and the pairs that give TNL.
+    fn shelf_and_pairs(&self) -> ShelfAndPairs {
+        let (table, record) = (&self.feed.table, self.feed.record());
+        ShelfAndPairs::of(&table.bytes, record.bytes(), self.channel)
     }
 
     /// The bits of the scene of each count without scan bias.
     fn words(&self, counts: &[u16]) -> Vec<u32> {
         let (table, flag) = (&self.feed.table, self.flag());
+        let tnl = nonlinearity_for_scan(table, self.feed.record(), self.channel);
         let word = |count: &u16| {
-            let t = temperature(table, self.channel, &self.sums, flag, *count);
+            let t = temperature(table, self.channel, &self.sums, tnl, flag, *count);
             scene_without_bias(t).value().to_bits()
         };
         counts.iter().map(word).collect()
@@ -159,6 +169,7 @@ fn count_differences(one: &ChannelOfFeed, other: &ChannelOfFeed, counters: &mut 
     let is_same_feed = std::ptr::eq(feed, other_feed);
     let is_same_target = one.target() == other.target();
     let (ages, other_ages) = (feed.ages(), other_feed.ages());
+    let (shelf, other_shelf) = (one.shelf_and_pairs(), other.shelf_and_pairs());
     // Another Ww goes with another Wc, another rj with another sl, another b with another mean of the
     // thermometers.
     let classes = [
@@ -206,7 +217,19 @@ fn count_differences(one: &ChannelOfFeed, other: &ChannelOfFeed, counters: &mut 
             feed.percentages() != other_feed.percentages(),
         ),
         ("other limits", one.limits() != other.limits()),
-        ("other scan number", feed.number() != other_feed.number()),
+        (
+            "other shelf temperature",
+            shelf.temperature() != other_shelf.temperature(),
+        ),
+        ("other pairs", shelf.pairs() != other_shelf.pairs()),
+        (
+            "other unrounded TNL",
+            !shelf.line().meets(&other_shelf.line()),
+        ),
+        (
+            "other scan number",
+            feed.record().number() != other_feed.record().number(),
+        ),
         ("other missing numbers", ages != other_ages),
         ("other number of records", ages.len() != other_ages.len()),
     ];
@@ -565,6 +588,26 @@ mod tests {
             ["other limits"]
         );
         assert_eq!(of(|_, record| record.number = 8), ["other scan number"]);
+        assert_eq!(
+            of(|_, record| record.shelves[0] = 5),
+            ["other shelf temperature"]
+        );
+        assert_eq!(
+            of(|table, _| table.channels[0].shelf_pairs[4].nonlinearity = 0),
+            ["other pairs"]
+        );
+        // 400 - 1 / 122,880, which is rounded to 400.
+        assert_eq!(
+            of(|table, record| {
+                table.channels[0].shelf_pairs[3].nonlinearity = 399;
+                record.shelves[0] = 1;
+            }),
+            [
+                "other shelf temperature",
+                "other pairs",
+                "other unrounded TNL"
+            ]
+        );
     }
 
     #[test]

@@ -24,7 +24,7 @@ use crate::second::state;
 use crate::second::table::open;
 
 /// Where the ages of 0x33, 0x34 and 0x35 begin, and how many bytes each has.
-const BY_AGE: [(usize, usize); 3] = [(766, 88), (1_473, 88), (2_180, 60)];
+const BY_AGE: [(usize, usize); 3] = [(1_429, 88), (2_136, 88), (2_843, 60)];
 
 fn u32_at(bytes: &[u8], at: usize) -> u32 {
     u32::from_be_bytes(bytes[at..at + 4].try_into().unwrap())
@@ -39,45 +39,45 @@ fn values_of_age(bytes: &[u8], (first, step): (usize, usize), age: usize) -> Vec
 
 /// Why bytes are no state, each reason stated for itself where it can be.
 pub fn reasons(bytes: &[u8]) -> Vec<&'static str> {
-    if bytes.len() < 11_114 {
+    if bytes.len() < 11_777 {
         return vec!["fewer bytes"];
     }
     let mut all: Vec<&'static str> = Vec::new();
     let heads = [
         (0, [0x30, 0, 8]),
-        (11, [0x31, 2, 229]),
-        (755, [0x32, 0, 5]),
-        (763, [0x33, 2, 192]),
-        (1_470, [0x34, 2, 192]),
-        (2_177, [0x35, 1, 224]),
+        (11, [0x31, 5, 124]),
+        (1_418, [0x32, 0, 5]),
+        (1_426, [0x33, 2, 192]),
+        (2_133, [0x34, 2, 192]),
+        (2_840, [0x35, 1, 224]),
     ];
     if heads.iter().any(|(at, head)| bytes[*at..at + 3] != *head) {
         all.push("head");
     }
-    if bytes[2_660..2_663] != [0x36, 33, 3] {
+    if bytes[3_323..3_326] != [0x36, 33, 3] {
         all.push("head of 0x36");
     }
     if bytes[3..7] != *b"SNDR" {
         all.push("magic number");
     }
-    if bytes[7..11] != [0, 0, 0, 3] {
+    if bytes[7..11] != [0, 0, 0, 4] {
         all.push("version");
     }
-    match plain_answer(&bytes[14..755]) {
+    match plain_answer(&bytes[14..1_418]) {
         0 => {}
         2 => all.push("table 2"),
         _ => all.push("table 3"),
     }
-    match plain_bias_answer(&bytes[2_663..11_114]) {
+    match plain_bias_answer(&bytes[3_326..11_777]) {
         0 => {}
         2 => all.push("bias 2"),
         _ => all.push("bias 3"),
     }
-    let number = u32_at(bytes, 759);
-    if bytes[758] > 1 {
+    let number = u32_at(bytes, 1_422);
+    if bytes[1_421] > 1 {
         all.push("first byte");
     }
-    if bytes[758] == 0 && number != 0 {
+    if bytes[1_421] == 0 && number != 0 {
         all.push("number but no scan");
     }
     let kelvin = 873_062..=1_364_582;
@@ -93,7 +93,7 @@ pub fn reasons(bytes: &[u8]) -> Vec<&'static str> {
                 all.push(names[which]);
             }
             if values.iter().any(|value| *value != 0) {
-                if bytes[758] == 0 {
+                if bytes[1_421] == 0 {
                     all.push("value but no scan");
                 } else if age as u64 > number as u64 {
                     all.push("value at an age above the number");
@@ -109,10 +109,10 @@ pub fn reasons(bytes: &[u8]) -> Vec<&'static str> {
 /// Counts what stands in the bytes that a function is given as a state.
 fn count_state(bytes: &[u8], reasons: &[&str], counters: &mut Counters) {
     match bytes.len() {
-        length @ (0 | 2_660 | 11_113 | 11_114 | 11_115) => {
+        length @ (0 | 3_323 | 11_114 | 11_776 | 11_777 | 11_778) => {
             counters.met("state length", &length.to_string())
         }
-        length if length > 11_115 => counters.met("state length", "longer"),
+        length if length > 11_778 => counters.met("state length", "longer"),
         _ => {}
     }
     // Where one reason alone holds, it decides.
@@ -122,15 +122,15 @@ fn count_state(bytes: &[u8], reasons: &[&str], counters: &mut Counters) {
     if reasons.len() > 1 {
         counters.met("no state", "more than one");
     }
-    if bytes.len() < 11_114 {
+    if bytes.len() < 11_777 {
         return;
     }
-    if let version @ 0..=4 = u32_at(bytes, 7) {
+    if let version @ 0..=5 = u32_at(bytes, 7) {
         counters.met("version of a state", &version.to_string());
     }
-    let bias = &bytes[2_663..11_114];
+    let bias = &bytes[3_326..11_777];
     count_edges(bias, ["c0 of a state", "e of a state"], counters);
-    if let byte @ (0 | 1 | 2 | 255) = bytes[758] {
+    if let byte @ (0 | 1 | 2 | 255) = bytes[1_421] {
         counters.met("first byte of 0x32", &byte.to_string());
     }
     // A state has hundreds of values, so each class is counted once.
@@ -150,8 +150,8 @@ fn count_state(bytes: &[u8], reasons: &[&str], counters: &mut Counters) {
     for ((group, value), times) in edges {
         counters.met_times(group, &value.to_string(), times);
     }
-    let number = u32_at(bytes, 759);
-    if bytes[758] == 1 && number < 8 {
+    let number = u32_at(bytes, 1_422);
+    if bytes[1_421] == 1 && number < 8 {
         let present = |age: usize| {
             let fields = BY_AGE.into_iter();
             let mut values = fields.flat_map(|field| values_of_age(bytes, field, age));
@@ -169,7 +169,7 @@ fn count_state(bytes: &[u8], reasons: &[&str], counters: &mut Counters) {
 
 /// The last accepted number of a state.
 fn last_number(state: &[u8]) -> Option<u32> {
-    (state[758] == 1).then(|| u32_at(state, 759))
+    (state[1_421] == 1).then(|| u32_at(state, 1_422))
 }
 
 /// What a state says of its scans, by number. A scan with nothing is left out.
@@ -209,23 +209,29 @@ fn check_accepted(
     let wrong = |what: &str| Err(format!("accepted: {what}"));
     let before = &feed.state;
     let state = &after.state;
-    if state.len() != before.len() || state[11_114..] != before[11_114..] {
+    if state.len() != before.len() || state[11_777..] != before[11_777..] {
         return wrong("bytes behind the state changed");
     }
     let buffer = &after.buffer;
     if buffer.len() != feed.buffer.len() || buffer[8_706..] != feed.buffer[8_706..] {
         return wrong("bytes behind the product changed");
     }
-    for stays in [0..758, 763..766, 1_470..1_473, 2_177..2_180, 2_660..11_114] {
+    for stays in [
+        0..1_421,
+        1_426..1_429,
+        2_133..2_136,
+        2_840..2_843,
+        3_323..11_777,
+    ] {
         if state[stays.clone()] != before[stays.clone()] {
             return wrong(&format!("bytes {stays:?} of the state changed"));
         }
     }
     let number = &feed.record[3..7];
-    if state[758] != 1 || state[759..763] != *number {
+    if state[1_421] != 1 || state[1_422..1_426] != *number {
         return wrong("0x32 is not 1 and the number");
     }
-    let table = open(&before[14..755]).expect("a state has an accepted table");
+    let table = open(&before[14..1_418]).expect("a state has an accepted table");
     let record = ScanRecord::read(&feed.record).expect("the record was accepted");
     let samples = accepted_samples(&table, &record);
     let own = kept(&samples);
@@ -263,7 +269,7 @@ fn check_accepted(
     }
     let mut scans = scans_of(before);
     scans.insert(record.number(), scan_values(&samples));
-    let (bias, product) = (&before[2_663..11_114], &buffer[..8_706]);
+    let (bias, product) = (&before[3_326..11_777], &buffer[..8_706]);
     check_product(&table, bias, &record, product, &scans, counters)
 }
 
@@ -340,8 +346,8 @@ pub fn probe(state: &[u8], index: usize) -> StateFeed {
         record: Vec::new(),
         buffer: vec![5; 8_707],
     };
-    if index % 64 < 4 && state.len() >= 11_114 {
-        let last = u32_at(state, 759);
+    if index % 64 < 4 && state.len() >= 11_777 {
+        let last = u32_at(state, 1_422);
         let mut record = RecordValues::bench();
         record.number = last.saturating_add(1 + (index / 64) as u32 % 9);
         if index % 128 < 64 {
@@ -397,7 +403,7 @@ fn fresh_answers(input: &FreshInput) -> Vec<(&'static str, u8)> {
         ("table", plain_answer(&input.table)),
         ("bias", plain_bias_answer(&input.bias)),
     ];
-    if input.memory.len() < 11_114 {
+    if input.memory.len() < 11_777 {
         all.push(("254", 254));
     }
     all.retain(|(_, number)| *number != 0);
@@ -441,7 +447,7 @@ pub fn checked_fresh(input: &FreshInput, counters: &mut Counters) -> Result<(u8,
     let mut left = memory.clone();
     if answer == 0 {
         let state = StateValues::fresh(table.clone(), bias.clone()).encode();
-        left[..11_114].copy_from_slice(&state);
+        left[..11_777].copy_from_slice(&state);
     }
     if after != left {
         return Err(format!("fresh: {answer}, the memory is another"));
@@ -472,7 +478,7 @@ where
     F: Fn(&[u8], &[u8], &mut [u8]) -> u8,
     G: Fn(&mut [u8], &[u8], &mut [u8]) -> u8,
 {
-    let mut state = vec![3; 11_114];
+    let mut state = vec![3; 11_777];
     let mut answers = vec![(functions.fresh)(&list.table, &list.bias, &mut state)];
     let last = roll.last().map_or(0, ScanRecord::number);
     for record in roll {
@@ -501,7 +507,7 @@ where
     G: Fn(&mut [u8], &[u8], &mut [u8]) -> u8,
 {
     let mut random = Random::new(seed);
-    let mut memory = random.bytes(11_114);
+    let mut memory = random.bytes(11_777);
     if (functions.fresh)(&list.table, &list.bias, &mut memory) != 0 {
         return Err("no fresh state of an accepted table and bias file".to_string());
     }
@@ -518,7 +524,7 @@ where
             }
             2 => {
                 let more = random.below(500);
-                memory.truncate(11_114);
+                memory.truncate(11_777);
                 memory.extend(random.bytes(more));
                 "moved"
             }
@@ -528,7 +534,7 @@ where
             }
             _ => {
                 let state = rebuilt(list, &roll, functions)?;
-                if memory[..11_114] != state {
+                if memory[..11_777] != state {
                     return Err(format!("feed {}: another state rebuilt", index + 1));
                 }
                 memory = state;
@@ -584,7 +590,7 @@ pub fn checked_state_run(
     for (index, (feed, outcome)) in list.feeds.iter().zip(&states).enumerate() {
         let mut buffer = feed.buffer.clone();
         calibrator = calibrator.feed(&feed.record, &mut buffer).calibrator;
-        if outcome.state[..11_114] != state::write(&calibrator) {
+        if outcome.state[..11_777] != state::write(&calibrator) {
             return Err(format!("feed {}: not the state of the roll", index + 1));
         }
     }

@@ -7,7 +7,7 @@ use crate::second::acceptance::accepted_samples;
 use crate::second::calibrator::judge;
 use crate::second::product::LENGTH;
 use crate::second::record::ScanRecord;
-use crate::second::table::{open, CHANNELS};
+use crate::second::table::{open, CHANNELS, SHELVES};
 
 /// Whether two lists under one table and one bias file are alike.
 pub fn are_alike(first: &FeedList, second: &FeedList) -> bool {
@@ -30,8 +30,11 @@ pub fn are_alike(first: &FeedList, second: &FeedList) -> bool {
                     let counts = channels.map(|channel| record.earth_counts(channel));
                     counts.collect::<Vec<_>>()
                 };
+                let shelves =
+                    |record: &ScanRecord| SHELVES.map(|shelf| record.shelf_temperature(shelf));
                 let same = one.number() == other.number()
                     && earth(&one) == earth(&other)
+                    && shelves(&one) == shelves(&other)
                     && accepted_samples(&table, &one) == accepted_samples(&table, &other);
                 if !same {
                     return false;
@@ -117,6 +120,24 @@ mod tests {
         bias.pairs[21][95] = PairValues { c0: 0, e: 1 };
         second.bias = bias.encode();
         assert!(!are_alike(&first, &second));
+    }
+
+    #[test]
+    fn lists_with_another_shelf_temperature_are_not_alike() {
+        let bench = RecordValues::bench();
+        for place in 0..4 {
+            let mut other = bench.clone();
+            other.shelves[place] = 1;
+            assert!(!are_alike(&feed(&bench), &feed(&other)));
+            assert!(are_alike(&feed(&other), &feed(&other)));
+        }
+        // Those of a refused feed do not count.
+        let mut short = [bench.clone(), bench].map(|record| feed(&record));
+        for list in &mut short {
+            list.feeds[0].buffer.pop();
+        }
+        short[1].feeds[0].record[4_632] = 1;
+        assert!(are_alike(&short[0], &short[1]));
     }
 
     #[test]

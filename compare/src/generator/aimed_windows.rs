@@ -5,13 +5,14 @@ use super::lists::{long_buffer, short_buffer, Feed, FeedList};
 use super::random::Random;
 use super::random_tables::random_weights;
 use super::records::RecordValues;
+use super::shelves::{any_shelf, pairs_through};
 use super::six_numbers::SixNumbers;
 use super::tables::{TableValues, ThermometerValues};
 use super::thermometers::count_near;
 use super::weighted_sides::{ages_in, side_counts, weight_at, Ages};
 use crate::second::record::ScanRecord;
 use crate::second::rounding::r;
-use crate::second::table::{open, Table, Target, CHANNELS, TARGETS};
+use crate::second::table::{open, Shelf, Table, Target, CHANNELS, TARGETS};
 use crate::second::thermometer::{HIGHEST_T, KELVIN_OF_ZERO_CELSIUS, LOWEST_T};
 use crate::second::window::{channel_sums, flag, window, WindowScan};
 
@@ -83,6 +84,7 @@ impl Draft {
         let current = random.pick(&[7, any, any, u32::MAX]);
         let record = |age: usize| RecordValues {
             number: current - age as u32,
+            shelves: std::array::from_fn(|_| any_shelf(random)),
             ..RecordValues::bench()
         };
         Draft {
@@ -92,7 +94,7 @@ impl Draft {
         }
     }
 
-    /// Makes the counts of a channel, and its row of the table but for b: whether counts were found.
+    /// Makes the counts of a channel, and its rows of the table but for b: whether counts were found.
     fn make_channel(
         &mut self,
         random: &mut Random,
@@ -126,7 +128,8 @@ impl Draft {
         let rj = random.between((both - 16_384).max(0), both.min(16_384));
         values.rayleigh_jeans = rj as u16;
         values.side_lobe = (both - rj) as u16;
-        values.peak_nonlinearity = six.tnl as i16;
+        let shelf = self.records[0].shelves[Shelf::of_channel(channel) as usize];
+        values.shelf_pairs = pairs_through(random, shelf, six.tnl as i16);
         true
     }
 
@@ -186,12 +189,12 @@ impl Draft {
         records
     }
 
-    /// The window of the last feed, which does not look at b and percentages.
-    fn window(&self) -> Vec<WindowScan> {
+    /// The records of the window as they are read, the last one last.
+    fn roll(&self) -> Vec<ScanRecord> {
         let records = self.records_there();
         let read = |record: &RecordValues| ScanRecord::read(&record.encode());
         let roll: Result<Vec<ScanRecord>, u8> = records.iter().map(read).collect();
-        window(&self.open(), &roll.expect("the encoder's layout is right"))
+        roll.expect("the encoder's layout is right")
     }
 
     /// Sets b so that each channel has this Tw, and percentages that all meet: whether there are such.
@@ -230,12 +233,13 @@ impl Draft {
         true
     }
 
-    /// Whether every channel has flag 0 and these numbers.
-    fn has_numbers(&self, scans: &[WindowScan], six: &SixNumbers) -> bool {
+    /// Whether every channel has flag 0 and these numbers in the feed of the current record.
+    fn has_numbers(&self, current: &ScanRecord, scans: &[WindowScan], six: &SixNumbers) -> bool {
         let table = self.open();
         (0..CHANNELS).all(|channel| {
             let sums = channel_sums(&table, scans, channel);
-            flag(&table, channel, &sums) == 0 && SixNumbers::of(&table, channel, &sums) == *six
+            let own = || SixNumbers::of(&table, current, channel, &sums);
+            flag(&table, channel, &sums) == 0 && own() == *six
         })
     }
 
@@ -296,8 +300,11 @@ pub fn list_with(random: &mut Random, six: &SixNumbers) -> Option<FeedList> {
     }
     let tw = six.tc + six.rise;
     draft.make_thermometers(random, tw);
-    let scans = draft.window();
-    if !draft.settle(random, &scans, tw) || !draft.has_numbers(&scans, six) {
+    // Neither looks at b and percentages.
+    let roll = draft.roll();
+    let scans = window(&draft.open(), &roll);
+    let current = roll.last()?;
+    if !draft.settle(random, &scans, tw) || !draft.has_numbers(current, &scans, six) {
         return None;
     }
     Some(FeedList {

@@ -73,7 +73,7 @@ pub fn bias_neighbours(base: &BiasValues) -> Vec<Neighbour> {
             push(format!("byte {position} wrong, c0 outside"), bytes, 2);
         }
     }
-    for length in [0, 1, 2, 3, 7, 384, 741, 8_450] {
+    for length in [0, 1, 2, 3, 7, 384, 1_404, 8_450] {
         push(format!("length {length}"), right[..length].to_vec(), 1);
     }
     for more in [1, 2, 4, 8_451] {

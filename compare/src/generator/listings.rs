@@ -89,8 +89,8 @@ fn troubled_input(random: &mut Random) -> ListingInput {
 fn stream_input(random: &mut Random) -> ListingInput {
     let stream = record_stream(random.next());
     let last = stream.records[stream.records.len() - 1].clone();
-    let any = random.between(1, 4_628) as usize;
-    let rest = random.pick(&[0, 0, 1, 4_628, any]);
+    let any = random.between(1, 4_647) as usize;
+    let rest = random.pick(&[0, 0, 1, 4_629, 4_647, any]);
     let input = match random.below(12) {
         0 => Vec::new(),
         1 => last[..rest].to_vec(),

@@ -7,6 +7,7 @@ use super::random_biases::random_bias;
 use super::random_tables::random_table;
 use super::records::{record_neighbours, RecordValues};
 use super::scenes::earth_counts;
+use super::shelves::aimed_shelves;
 use super::tables::TableValues;
 use super::thermometers::{plan_thermometers, thermometer_counts, ThermometerPlan};
 use crate::second::calibrator::judge;
@@ -167,8 +168,8 @@ impl Behind<'_> {
     }
 }
 
-/// A well-formed record with its calibration samples by the plan and earth counts that aim at
-/// the edges of the window it would have behind this.
+/// A well-formed record with its calibration samples by the plan, shelf temperatures that aim at the table's
+/// pairs, and earth counts that aim at the edges of the window it would have behind this.
 fn planned_record(random: &mut Random, plan: &Plan, behind: &Behind, number: u32) -> RecordValues {
     let mut record = RecordValues::bench();
     record.number = number;
@@ -180,6 +181,7 @@ fn planned_record(random: &mut Random, plan: &Plan, behind: &Behind, number: u32
         let counts = channel_counts(random, &plan.channels[channel], &plan.table, channel);
         (record.warm[channel], record.cold[channel]) = counts;
     }
+    record.shelves = aimed_shelves(random, &plan.table.channels);
     let own = ScanRecord::read(&record.encode()).expect("the encoder's layout is right");
     let roll = [&behind.roll[..], &[own]].concat();
     let window = window_since(behind.table, &behind.start, &roll);
@@ -194,7 +196,7 @@ fn planned_record(random: &mut Random, plan: &Plan, behind: &Behind, number: u32
 fn wrong_record(random: &mut Random, record: &RecordValues) -> Vec<u8> {
     if random.once_in(4) {
         let mut bytes = record.encode();
-        bytes.resize(random.pick(&[0, 1, 4_628, 4_630]), 0);
+        bytes.resize(random.pick(&[0, 1, 4_629, 4_647, 4_649]), 0);
         return bytes;
     }
     random.pick(&record_neighbours(record)).bytes

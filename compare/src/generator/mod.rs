@@ -14,6 +14,8 @@ pub mod neighbour;
 
 pub mod tables;
 
+pub mod shelves;
+
 pub mod table_neighbours;
 
 pub mod random_tables;
@@ -37,6 +39,8 @@ pub mod scenes;
 pub mod lists;
 
 pub mod twins;
+
+pub mod one_shelf;
 
 pub mod streams;
 

@@ -3,7 +3,8 @@
 use super::layouts::{head_positions, TABLE};
 use super::neighbour::Neighbour;
 use super::random::Random;
-use super::table_neighbours::table_neighbours;
+use super::shelves::set_shelf_pairs;
+use super::table_neighbours::{some_table_neighbour, table_neighbours};
 use super::tables::{TableValues, ThermometerValues};
 
 /// Eight weights that sum to 1..255: single ones, zeros in the middle, spread, the greatest sum.
@@ -187,11 +188,8 @@ pub fn random_table(random: &mut Random) -> TableValues {
             channel.rayleigh_jeans = random.between(rest - 16_384, 16_384) as u16;
             channel.side_lobe = rest as u16 - channel.rayleigh_jeans;
         }
-        let any = at_end_or_any(random, -8_192, 8_192);
-        // Twice an odd number: 3/4 and 5/4 of it are halves.
-        let half = 2 * (2 * random.between(-2_000, 2_000) + 1);
-        channel.peak_nonlinearity = random.pick(&[any, half, half, 0]) as i16;
     }
+    set_shelf_pairs(random, &mut table.channels);
     table
 }
 
@@ -218,16 +216,15 @@ pub fn table_bytes(seed: u64) -> Vec<u8> {
             bytes
         }
         2 => {
-            let length = random.pick(&[0, 740, 741, 742, 1_000]);
+            let length = random.pick(&[0, 741, 1_403, 1_404, 1_405]);
             random.bytes(length)
         }
         3 => {
             // Two changes, each taken from a neighbour of the same length.
-            let neighbours = table_neighbours(&base);
             let own = base.encode();
             let mut bytes = own.clone();
             for _ in 0..2 {
-                let other = random.pick(&neighbours).bytes;
+                let other = some_table_neighbour(&mut random, &base).bytes;
                 if other.len() == own.len() {
                     for position in 0..own.len() {
                         if other[position] != own[position] {
@@ -238,7 +235,7 @@ pub fn table_bytes(seed: u64) -> Vec<u8> {
             }
             bytes
         }
-        _ => random.pick(&table_neighbours(&base)).bytes,
+        _ => some_table_neighbour(&mut random, &base).bytes,
     }
 }
 
@@ -246,7 +243,7 @@ pub fn table_bytes(seed: u64) -> Vec<u8> {
 pub fn refused_table(random: &mut Random, number: u8) -> Vec<u8> {
     let mut bytes = random_table(random).encode();
     match number {
-        1 => bytes.resize(random.pick(&[0, 740, 742]), 0),
+        1 => bytes.resize(random.pick(&[0, 741, 1_403, 1_405]), 0),
         2 => bytes[random.pick(&head_positions(&TABLE))] ^= 1,
         // A percentage of 0.
         _ => bytes[19] = 0,

@@ -12,6 +12,8 @@ pub struct RecordValues {
     pub warm: [[u16; 4]; 22],
     pub cold: [[u16; 4]; 22],
     pub earth: [[u16; 96]; 22],
+    /// KKA, V, W and G.
+    pub shelves: [i32; 4],
 }
 
 impl RecordValues {
@@ -25,6 +27,7 @@ impl RecordValues {
             warm: [[20_000; 4]; 22],
             cold: [[10_000; 4]; 22],
             earth: [[15_000; 96]; 22],
+            shelves: [0; 4],
         }
     }
 
@@ -49,12 +52,17 @@ impl RecordValues {
         for count in self.earth.iter().flatten() {
             bytes.extend(count.to_be_bytes());
         }
+        bytes.extend([6, 0, 16]);
+        for temperature in self.shelves {
+            bytes.extend(temperature.to_be_bytes());
+        }
         bytes
     }
 
     /// The values of bytes that `encode` gave.
     pub fn decode(bytes: &[u8]) -> RecordValues {
         let u16_at = |at: usize| u16::from_be_bytes([bytes[at], bytes[at + 1]]);
+        let i32_at = |at: usize| i32::from_be_bytes(bytes[at..at + 4].try_into().unwrap());
         RecordValues {
             number: u32::from_be_bytes([bytes[3], bytes[4], bytes[5], bytes[6]]),
             pam: u16_at(10),
@@ -69,11 +77,13 @@ impl RecordValues {
             earth: std::array::from_fn(|channel| {
                 std::array::from_fn(|place| u16_at(405 + 192 * channel + 2 * place))
             }),
+            shelves: std::array::from_fn(|place| i32_at(4_632 + 4 * place)),
         }
     }
 }
 
-/// Every neighbour of a record: each byte of a tag or length wrong by one, and other lengths.
+/// Every neighbour of a record: other numbers, shelf temperatures at ends, each byte of a tag or length wrong
+/// by one, and other lengths.
 /// The planned answers are those of a first feed with a buffer that is long enough.
 pub fn record_neighbours(base: &RecordValues) -> Vec<Neighbour> {
     let right = base.encode();
@@ -93,19 +103,28 @@ pub fn record_neighbours(base: &RecordValues) -> Vec<Neighbour> {
         };
         push(format!("number {number}"), other.encode(), 0);
     }
+    for temperature in [i32::MIN, -245_761, -245_760, 245_760, 245_761, i32::MAX] {
+        for place in 0..4 {
+            let mut bytes = right.clone();
+            let at = 4_632 + 4 * place;
+            bytes[at..at + 4].copy_from_slice(&i32::to_be_bytes(temperature));
+            push(format!("shelf {} at {temperature}", place + 1), bytes, 0);
+        }
+    }
     for position in head_positions(&RECORD) {
         for change in [1, 255] {
             let mut bytes = right.clone();
             bytes[position] = bytes[position].wrapping_add(change);
             push(format!("byte {position} wrong by one"), bytes.clone(), 5);
             bytes.pop();
-            push(format!("byte {position} wrong, length 4,628"), bytes, 4);
+            push(format!("byte {position} wrong, length 4,647"), bytes, 4);
         }
     }
-    for length in [0, 1, 2, 3, 7, 44, 741, 4_628] {
+    // 4,629 is the length of a record without shelf temperatures.
+    for length in [0, 1, 2, 3, 7, 44, 1_404, 4_629, 4_632, 4_647] {
         push(format!("length {length}"), right[..length].to_vec(), 4);
     }
-    for more in [1, 2, 4_629] {
+    for more in [1, 2, 4_648] {
         let mut bytes = right.clone();
         bytes.extend(vec![0; more]);
         push(format!("length {}", bytes.len()), bytes, 4);
@@ -125,9 +144,11 @@ mod tests {
         record.warm[21][3] = 4;
         record.cold[21][3] = 5;
         record.earth[21][95] = 6;
+        record.shelves = [-7, i32::MIN, i32::MAX, 8];
         let bytes = record.encode();
-        assert_eq!(bytes.len(), 4_629);
+        assert_eq!(bytes.len(), 4_648);
         assert_eq!(RecordValues::decode(&bytes).encode(), bytes);
         assert_eq!(RecordValues::decode(&bytes).earth[21][95], 6);
+        assert_eq!(RecordValues::decode(&bytes).shelves, record.shelves);
     }
 }

@@ -4,6 +4,8 @@
 use super::aimed_windows::list_with;
 use super::lists::FeedList;
 use super::random::Random;
+use crate::second::record::ScanRecord;
+use crate::second::shelf::nonlinearity_for_scan;
 use crate::second::table::Table;
 use crate::second::window::{cold_temperature, warm_temperature, ChannelSums};
 
@@ -14,7 +16,7 @@ pub struct SixNumbers {
     pub tc: i128,
     /// Tw - Tc.
     pub rise: i128,
-    /// TNL.
+    /// TNL, the whole one of the scan.
     pub tnl: i128,
     /// D.
     pub d: i128,
@@ -25,13 +27,18 @@ pub struct SixNumbers {
 }
 
 impl SixNumbers {
-    /// Of a channel with flag 0.
-    pub fn of(table: &Table, channel: usize, sums: &ChannelSums) -> SixNumbers {
+    /// Of a channel with flag 0 in the feed of this record.
+    pub fn of(
+        table: &Table,
+        record: &ScanRecord,
+        channel: usize,
+        sums: &ChannelSums,
+    ) -> SixNumbers {
         let tc = cold_temperature(table, channel);
         SixNumbers {
             tc,
             rise: warm_temperature(table, channel, sums) - tc,
-            tnl: table.channels[channel].peak_nonlinearity,
+            tnl: nonlinearity_for_scan(table, record, channel),
             d: sums.difference(),
             slope: 12 * sums.cold.weight * sums.warm.weight,
             base: sums.cold.value * sums.warm.weight,
@@ -146,7 +153,7 @@ pub fn one_number_apart(seed: u64) -> [[FeedList; 2]; 6] {
 /// Puts the same 96 earth counts into every channel of a record.
 pub fn set_earth_counts(record: &mut [u8], counts: &[u16; 96]) {
     let bytes: Vec<u8> = counts.iter().flat_map(|one| one.to_be_bytes()).collect();
-    for channel in record[405..].chunks_mut(192) {
+    for channel in record[405..4_629].chunks_mut(192) {
         channel.copy_from_slice(&bytes);
     }
 }
@@ -174,9 +181,11 @@ mod tests {
                 .calibrator;
         }
         let (table, window) = (calibrator.table(), calibrator.window());
+        let record = calibrator.roll().last().unwrap();
         let numbers = |channel: usize| {
             assert_eq!(flag_of(&buffer, channel), 0);
-            SixNumbers::of(table, channel, &channel_sums(table, &window, channel))
+            let sums = channel_sums(table, &window, channel);
+            SixNumbers::of(table, record, channel, &sums)
         };
         (0..CHANNELS).map(numbers).collect()
     }
@@ -243,5 +252,6 @@ mod tests {
         assert_eq!(values.earth, [counts; 22]);
         let bench = RecordValues::bench();
         assert_eq!((values.warm, values.cold), (bench.warm, bench.cold));
+        assert_eq!(values.encode().len(), record.len());
     }
 }

@@ -72,7 +72,7 @@ impl KeptField {
 /// The values of a state, in range or not.
 #[derive(Clone, Debug)]
 pub struct StateValues {
-    /// 741 bytes.
+    /// 1,404 bytes.
     pub table: Vec<u8>,
     /// 8,451 bytes.
     pub bias: Vec<u8>,
@@ -100,8 +100,8 @@ impl StateValues {
     pub fn encode(&self) -> Vec<u8> {
         let mut bytes = vec![0x30, 0, 8];
         bytes.extend(*b"SNDR");
-        bytes.extend([0, 0, 0, 3]);
-        bytes.extend([0x31, 0x02, 0xe5]);
+        bytes.extend([0, 0, 0, 4]);
+        bytes.extend([0x31, 0x05, 0x7c]);
         bytes.extend(&self.table);
         bytes.extend([0x32, 0, 5]);
         bytes.push(self.accepted);
@@ -132,14 +132,14 @@ impl StateValues {
             })
         };
         StateValues {
-            table: bytes[14..755].to_vec(),
-            bias: bytes[2_663..11_114].to_vec(),
-            accepted: bytes[758],
-            number: u32_at(759),
-            warm: sides(766),
-            cold: sides(1_473),
+            table: bytes[14..1_418].to_vec(),
+            bias: bytes[3_326..11_777].to_vec(),
+            accepted: bytes[1_421],
+            number: u32_at(1_422),
+            warm: sides(1_429),
+            cold: sides(2_136),
             thermometers: std::array::from_fn(|age| {
-                std::array::from_fn(|index| u32_at(2_180 + 60 * age + 4 * index))
+                std::array::from_fn(|index| u32_at(2_843 + 60 * age + 4 * index))
             }),
         }
     }
@@ -291,7 +291,7 @@ fn changed(random: &mut Random, state: &[u8]) -> Vec<u8> {
             let any = random.below(2_112);
             let pair = random.pick(&[0, 2_111, any]);
             let (c0, _) = random.pick(&C0_EDGES);
-            let at = 2_666 + 4 * pair;
+            let at = 3_329 + 4 * pair;
             bytes[at..at + 2].copy_from_slice(&c0.to_be_bytes());
         }
         _ => {
@@ -321,8 +321,8 @@ pub fn state_feed(seed: u64) -> StateFeed {
         feed.state.extend(random.bytes(more));
     }
     if random.once_in(20) {
-        let any = random.below(11_114);
-        let length = random.pick(&[0, 2_660, 11_113, 11_113, any]);
+        let any = random.below(11_777);
+        let length = random.pick(&[0, 3_323, 11_114, 11_776, 11_776, any]);
         feed.state.truncate(length);
     }
     feed
@@ -351,7 +351,9 @@ pub fn fresh_input(seed: u64) -> FreshInput {
         _ => bias_bytes(random.next()),
     };
     let any = random.below(24_000);
-    let length = random.pick(&[0, 2_660, 11_113, 11_114, 11_114, 11_114, 11_115, any]);
+    let length = random.pick(&[
+        0, 3_323, 11_114, 11_776, 11_777, 11_777, 11_777, 11_778, any,
+    ]);
     FreshInput {
         table,
         bias,
@@ -376,10 +378,23 @@ fn full_state(random: &mut Random, table: &TableValues, bias: &BiasValues) -> St
     values
 }
 
+/// A state in the layout of an earlier version: its table has no pairs, and in version 1 there is no bias
+/// file.
+fn earlier_layout(state: &[u8], version: u8) -> Vec<u8> {
+    let mut bytes = state.to_vec();
+    bytes[10] = version;
+    bytes[12..14].copy_from_slice(&[0x02, 0xe5]);
+    bytes.drain(755..1_418);
+    if version == 1 {
+        bytes.truncate(2_660);
+    }
+    bytes
+}
+
 /// Every neighbour of a state: each byte of a tag, a length, the magic number or the version wrong by
 /// one, neighbours of its table and of its bias file, the first byte and the number of 0x32, a value at
 /// each age with each number from 0 to 8 and with no scan, each value at the ends of its range and beside
-/// them, and other lengths. The planned answer is 254 or, for a state, 0.
+/// them, other lengths, and the layouts of earlier versions. The planned answer is 254 or, for a state, 0.
 pub fn state_neighbours(seed: u64) -> Vec<Neighbour> {
     let mut random = Random::new(seed);
     let table = base_table(seed);
@@ -406,11 +421,12 @@ pub fn state_neighbours(seed: u64) -> Vec<Neighbour> {
         }
     }
     for front in [
-        *b"RDNS\0\0\0\x03",
+        *b"RDNS\0\0\0\x04",
         *b"SNDR\0\0\0\0",
         *b"SNDR\0\0\0\x01",
         *b"SNDR\0\0\0\x02",
-        *b"SNDR\x03\0\0\0",
+        *b"SNDR\0\0\0\x03",
+        *b"SNDR\x04\0\0\0",
     ] {
         let mut bytes = right.clone();
         bytes[3..11].copy_from_slice(&front);
@@ -419,9 +435,9 @@ pub fn state_neighbours(seed: u64) -> Vec<Neighbour> {
 
     for neighbour in table_neighbours(&table) {
         // There are thousands, so that of most tables only some are taken.
-        if neighbour.bytes.len() == 741 && (seed == 0 || random.once_in(6)) {
+        if neighbour.bytes.len() == 1_404 && (seed == 0 || random.once_in(6)) {
             let mut bytes = right.clone();
-            bytes[14..755].copy_from_slice(&neighbour.bytes);
+            bytes[14..1_418].copy_from_slice(&neighbour.bytes);
             let about = format!("its table: {}", neighbour.description);
             push(about, bytes, neighbour.answer == 0);
         }
@@ -429,7 +445,7 @@ pub fn state_neighbours(seed: u64) -> Vec<Neighbour> {
     for neighbour in bias_neighbours(&bias) {
         if neighbour.bytes.len() == 8_451 && (seed == 0 || random.once_in(6)) {
             let mut bytes = right.clone();
-            bytes[2_663..].copy_from_slice(&neighbour.bytes);
+            bytes[3_326..].copy_from_slice(&neighbour.bytes);
             let about = format!("its bias file: {}", neighbour.description);
             push(about, bytes, neighbour.answer == 0);
         }
@@ -484,14 +500,18 @@ pub fn state_neighbours(seed: u64) -> Vec<Neighbour> {
         }
     }
 
-    for length in [0, 1, 755, 2_180, 2_659, 2_660, 2_663, 11_110, 11_113] {
+    for length in [
+        0, 1, 1_418, 2_843, 3_322, 3_323, 3_326, 11_114, 11_773, 11_776,
+    ] {
         push(format!("length {length}"), right[..length].to_vec(), false);
     }
-    // The first six fields alone, with version 1.
-    let mut six_fields = right[..2_660].to_vec();
-    six_fields[10] = 1;
-    push("six fields, version 1".to_string(), six_fields, false);
-    for more in [1, 2, 11_114] {
+    for version in [1, 2, 3] {
+        let earlier = earlier_layout(&right, version);
+        push(format!("version {version}"), earlier.clone(), false);
+        let longer = [&earlier[..], &random.bytes(11_777 - earlier.len())].concat();
+        push(format!("version {version} and more"), longer, false);
+    }
+    for more in [1, 2, 11_777] {
         let bytes = [&right[..], &random.bytes(more)].concat();
         push(format!("length {}", bytes.len()), bytes, true);
     }
@@ -530,7 +550,7 @@ mod tests {
         let mut random = Random::new(3);
         for _ in 0..20 {
             let bytes = some_state(&mut random);
-            assert_eq!(bytes.len(), 11_114);
+            assert_eq!(bytes.len(), 11_777);
             assert_eq!(StateValues::decode(&bytes).encode(), bytes);
         }
     }

@@ -5,7 +5,7 @@ use super::random::Random;
 use crate::second::product::LENGTH;
 use crate::second::table::open;
 
-/// Records of 4,629 bytes each, the table they are planned for, and a bias file.
+/// Records of 4,648 bytes each, the table they are planned for, and a bias file.
 #[derive(Clone, Debug)]
 pub struct RecordStream {
     pub table: Vec<u8>,
@@ -52,7 +52,7 @@ pub fn record_stream(seed: u64) -> RecordStream {
         };
         let record = planned_bytes(&mut random, &plan, &behind, number);
         // A record of another length would move all those behind it.
-        if record.len() == 4_629 {
+        if record.len() == 4_648 {
             accepted += usize::from(join(&mut behind.roll, &record, LENGTH));
             records.push(record);
         }
@@ -86,7 +86,7 @@ mod tests {
         for seed in 0..20 {
             let stream = record_stream(seed);
             assert!(stream.records.len() >= 12);
-            assert!(stream.records.iter().all(|record| record.len() == 4_629));
+            assert!(stream.records.iter().all(|record| record.len() == 4_648));
             let passes = |nine: &[u32]| nine[7] - nine[0] == 7 && nine[8] - nine[7] > 1;
             passed += usize::from(accepted_numbers(&stream).windows(9).any(passes));
         }

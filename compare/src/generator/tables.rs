@@ -9,6 +9,13 @@ pub struct ThermometerValues {
     pub beta: u32,
 }
 
+/// A shelf temperature and the TNL at it.
+#[derive(Clone, Copy, Debug, PartialEq, Eq)]
+pub struct ShelfPairValues {
+    pub temperature: i32,
+    pub nonlinearity: i16,
+}
+
 #[derive(Clone, Copy, Debug)]
 pub struct ChannelValues {
     pub warm_low: u16,
@@ -20,7 +27,9 @@ pub struct ChannelValues {
     pub warm_bias: i16,
     pub rayleigh_jeans: u16,
     pub side_lobe: u16,
-    pub peak_nonlinearity: i16,
+    /// The TNL of field 0x12, which has to be 0.
+    pub zero_nonlinearity: i16,
+    pub shelf_pairs: [ShelfPairValues; 5],
 }
 
 /// The values of a table, in range or not.
@@ -51,6 +60,11 @@ impl TableValues {
             delta: 1_500_000,
             beta: 0,
         };
+        let shelf_pairs =
+            [-245_760, -122_880, 0, 122_880, 245_760].map(|temperature| ShelfPairValues {
+                temperature,
+                nonlinearity: 400,
+            });
         let channel = ChannelValues {
             warm_low: 0,
             warm_upp: 65_535,
@@ -61,7 +75,8 @@ impl TableValues {
             warm_bias: 0,
             rayleigh_jeans: 0,
             side_lobe: 0,
-            peak_nonlinearity: 400,
+            zero_nonlinearity: 0,
+            shelf_pairs,
         };
         TableValues {
             count_weights: [1, 0, 0, 0, 0, 0, 0, 0],
@@ -112,7 +127,12 @@ impl TableValues {
             bytes.extend(channel.warm_bias.to_be_bytes());
             bytes.extend(channel.rayleigh_jeans.to_be_bytes());
             bytes.extend(channel.side_lobe.to_be_bytes());
-            bytes.extend(channel.peak_nonlinearity.to_be_bytes());
+            bytes.extend(channel.zero_nonlinearity.to_be_bytes());
+        }
+        bytes.extend([0x14, 2, 148]);
+        for pair in self.channels.iter().flat_map(|one| one.shelf_pairs) {
+            bytes.extend(pair.temperature.to_be_bytes());
+            bytes.extend(pair.nonlinearity.to_be_bytes());
         }
         bytes
     }

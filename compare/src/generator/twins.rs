@@ -93,14 +93,14 @@ pub fn alike_twin(list: &FeedList, seed: u64) -> FeedList {
                 buffer: long_buffer(&mut random),
             },
             Err(4) => {
-                let length = random.pick(&[0, 1, 4_628, 4_630, 9_258]);
+                let length = random.pick(&[0, 1, 4_629, 4_647, 4_649, 9_296]);
                 Feed {
                     record: random.bytes(length),
                     buffer: any_buffer,
                 }
             }
             Err(5) => {
-                let mut record = random.bytes(4_629);
+                let mut record = random.bytes(4_648);
                 record[0] = random.pick(&[0, 2, 255]);
                 Feed {
                     record,
@@ -119,6 +119,7 @@ pub fn alike_twin(list: &FeedList, seed: u64) -> FeedList {
             Err(_) => {
                 let mut other = RecordValues::decode(&feed.record);
                 other.pam = random.next() as u16;
+                other.shelves = [0; 4].map(|_: i32| random.next() as i32);
                 Feed {
                     record: other.encode(),
                     buffer: short_buffer(&mut random),

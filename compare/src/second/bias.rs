@@ -3,7 +3,7 @@
 
 use super::bytes::{i16_at, layout_is_right, layout_length, value};
 use super::record::SCENES;
-use super::rounding::{r, Fraction};
+use super::rounding::{r, Mixed};
 use super::thermometer::inside;
 
 pub const LAYOUT: [(u8, usize); 1] = [(0x13, 8_448)];
@@ -29,13 +29,17 @@ impl Pair {
 
     /// c0 + (1 + e / 65,536) × E, unrounded.
     ///
-    /// E's numerator is below 2^109 (see `exact_temperature`) and the factor below 2^17.
-    pub fn exact(&self, temperature: Fraction) -> Fraction {
-        let denominator = ONE * temperature.denominator;
-        Fraction {
-            numerator: self.c0 * denominator + (ONE + self.e) * temperature.numerator,
-            denominator,
-        }
+    /// The whole part and the rest of E are multiplied apart. The denominator is below 2^107 (see
+    /// `exact_temperature`) and the factor below 2^17.
+    pub fn exact(&self, temperature: Mixed) -> Mixed {
+        let factor = ONE + self.e;
+        let of_whole = Mixed::new(self.c0, factor * temperature.whole, ONE);
+        let of_rest = factor * temperature.numerator;
+        Mixed::new(
+            of_whole.whole,
+            of_whole.numerator * temperature.denominator + of_rest,
+            ONE * temperature.denominator,
+        )
     }
 }
 
@@ -90,6 +94,7 @@ mod tests {
     use super::*;
     use crate::generator::bias_neighbours::bias_neighbours;
     use crate::generator::biases::BiasValues;
+    use crate::second::rounding::Fraction;
     use crate::second::table::CHANNELS;
 
     fn answer(bytes: &[u8]) -> u8 {
@@ -178,13 +183,32 @@ mod tests {
 
     #[test]
     fn equation_30_is_a_fraction() {
-        // c0 = 3, e = -16,384 and E = 7 / 2: 3 + 3/4 × 7/2 = 45 / 8.
-        let e = Fraction {
-            numerator: 7,
-            denominator: 2,
+        // c0 = 3, e = -16,384 and E = 7 / 2: 3 + 3/4 × 7/2 = 5 + 5/8.
+        let exact = Pair { c0: 3, e: -16_384 }.exact(Mixed::new(0, 7, 2));
+        assert_eq!(exact.whole, 5);
+        assert_eq!(8 * exact.numerator, 5 * exact.denominator);
+    }
+
+    #[test]
+    fn equation_30_of_the_longest_fraction_stays_inside() {
+        // The greatest D² V and rise of shelf temperatures; E is one part below the greatest T.
+        let denominator = 51_136_960_500 * 51_136_960_500 * 65_025 * 491_517;
+        let highest = Pair {
+            c0: 4_096,
+            e: 32_767,
         };
-        let exact = Pair { c0: 3, e: -16_384 }.exact(e);
-        assert_eq!(8 * exact.numerator, 45 * exact.denominator);
+        let exact = highest.exact(Mixed::new(1_751_064, -1, denominator));
+        assert_eq!(exact.whole, highest.biased(1_751_064));
+        let sixteenths = Fraction {
+            numerator: 71,
+            denominator: 16,
+        };
+        // About 4,096 + 2,626,569.28 units.
+        for (units, expected) in [(-5, false), (-4, true), (4, true), (5, false)] {
+            let is_within = exact.is_within(sixteenths, exact.whole + units);
+            assert_eq!(is_within, expected, "{units}");
+        }
+        assert!(!exact.is_within(sixteenths, 16_777_215));
     }
 
     #[test]

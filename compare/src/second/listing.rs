@@ -67,7 +67,7 @@ mod tests {
     fn a_short_last_record_is_refused_with_4() {
         let table = TableValues::bench().encode();
         let record = RecordValues::bench().encode();
-        for short in [1, 4_628] {
+        for short in [1, 4_629, 4_647] {
             let input = [&record[..], &record[..short]].concat();
             let expected = format!("{BENCH_LINE}refused 4\n");
             assert_eq!(bench_listing(Some(&table), &input), expected);

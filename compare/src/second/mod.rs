@@ -1,6 +1,6 @@
-//! The calibrator of document 01 with scan bias, word by word. It keeps the plain roll and nothing worked
-//! out of it: every product is computed from all accepted records, from scratch. What a state says stands
-//! before the roll.
+//! The calibrator of document 01 with scan bias and shelf temperatures, word by word. It keeps the plain roll
+//! and nothing worked out of it: every product is computed from all accepted records, from scratch. What a
+//! state says stands before the roll.
 //!
 //! Nothing here imports from the rest of the crate, outside unit tests.
 
@@ -20,6 +20,8 @@ pub mod bias;
 pub mod acceptance;
 
 pub mod window;
+
+pub mod shelf;
 
 pub mod scene;
 

@@ -4,6 +4,7 @@ use super::bias::Bias;
 use super::bytes::{u16_at, u32_at, value};
 use super::record::{ScanRecord, SCENES};
 use super::scene::{scene, scene_without_bias, temperature, Scene};
+use super::shelf::nonlinearity_for_scan;
 use super::table::{Table, CHANNELS};
 use super::window::{channel_sums, flag, WindowScan};
 
@@ -49,10 +50,11 @@ fn channel_temperatures(
 ) -> (u8, Vec<Result<i128, Scene>>) {
     let sums = channel_sums(table, window, channel);
     let flag = flag(table, channel, &sums);
+    let tnl = nonlinearity_for_scan(table, current, channel);
     let counts = current.earth_counts(channel);
     let temperatures = counts
         .iter()
-        .map(|count| temperature(table, channel, &sums, flag, *count));
+        .map(|count| temperature(table, channel, &sums, tnl, flag, *count));
     (flag, temperatures.collect())
 }
 

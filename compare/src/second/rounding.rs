@@ -14,7 +14,7 @@ pub fn r(a: i128, b: i128) -> i128 {
     floor(2 * a + b, 2 * b)
 }
 
-/// An unrounded fraction: a pair of whole numbers, compared by multiplying out.
+/// An unrounded fraction: a pair of whole numbers.
 #[derive(Clone, Copy, Debug)]
 pub struct Fraction {
     pub numerator: i128,
@@ -22,11 +22,45 @@ pub struct Fraction {
     pub denominator: i128,
 }
 
-impl Fraction {
-    /// Whether `whole` differs from the fraction by at most `distance`.
+/// An unrounded number as a whole number and a fraction from 0 to below 1. E is kept so: the pair of whole
+/// numbers that equation 30 makes of it can leave i128.
+#[derive(Clone, Copy, Debug)]
+pub struct Mixed {
+    pub whole: i128,
+    /// From 0 to below the denominator.
+    pub numerator: i128,
+    /// Above 0.
+    pub denominator: i128,
+}
+
+impl Mixed {
+    /// whole + numerator / denominator, for a numerator of any size and sign.
+    pub fn new(whole: i128, numerator: i128, denominator: i128) -> Mixed {
+        let more = floor(numerator, denominator);
+        Mixed {
+            whole: whole + more,
+            numerator: numerator - more * denominator,
+            denominator,
+        }
+    }
+
+    /// Whether this, multiplied by a whole number above 0, lies from `low` to `high`, ends included.
+    ///
+    /// The multiple of the fraction is from 0 to below `times`, so that ends farther off can be moved to there,
+    /// and all is compared by multiplying out.
+    pub fn multiple_is_between(&self, times: i128, low: i128, high: i128) -> bool {
+        let wholes = times * self.whole;
+        let numerator = times * self.numerator;
+        let low = (low - wholes).clamp(0, times);
+        let high = (high - wholes).clamp(-1, times);
+        low * self.denominator <= numerator && numerator <= high * self.denominator
+    }
+
+    /// Whether `whole` differs from this by at most `distance`.
     pub fn is_within(&self, distance: Fraction, whole: i128) -> bool {
-        let difference = whole * self.denominator - self.numerator;
-        difference.abs() * distance.denominator <= distance.numerator * self.denominator
+        let middle = distance.denominator * whole;
+        let (low, high) = (middle - distance.numerator, middle + distance.numerator);
+        self.multiple_is_between(distance.denominator, low, high)
     }
 }
 
@@ -79,22 +113,64 @@ mod tests {
     }
 
     #[test]
-    fn fractions_are_compared_by_multiplying_out() {
-        let third = Fraction {
-            numerator: 7,
-            denominator: 3,
+    fn a_mixed_number_has_a_fraction_from_0_to_below_1() {
+        let rows = [
+            (0, 7, 3, (2, 1)),
+            (5, -7, 3, (2, 2)),
+            (-1, 6, 3, (1, 0)),
+            (4, -6, 3, (2, 0)),
+            (0, 2, 3, (0, 2)),
+        ];
+        for (whole, numerator, denominator, expected) in rows {
+            let mixed = Mixed::new(whole, numerator, denominator);
+            assert_eq!((mixed.whole, mixed.numerator), expected);
+            assert_eq!(mixed.denominator, denominator);
+        }
+    }
+
+    #[test]
+    fn distances_include_their_ends() {
+        let within = |numerator: i128, denominator: i128, (distance, parts): (i128, i128)| {
+            let distance = Fraction {
+                numerator: distance,
+                denominator: parts,
+            };
+            let mixed = Mixed::new(0, numerator, denominator);
+            let is_within = |whole: &i128| mixed.is_within(distance, *whole);
+            let near: Vec<i128> = (-20..20).filter(is_within).collect();
+            (near[0], near[near.len() - 1])
         };
-        let halves = |numerator: i128| Fraction {
-            numerator,
-            denominator: 2,
-        };
-        assert!(third.is_within(halves(4), 1));
-        assert!(third.is_within(halves(4), 4));
-        assert!(!third.is_within(halves(4), 0));
-        assert!(!third.is_within(halves(4), 5));
-        assert!(third.is_within(halves(7), 5));
-        assert!(third.is_within(halves(7), -1));
-        assert!(!third.is_within(halves(7), 6));
-        assert!(!third.is_within(halves(7), -2));
+        // 7/3 less and more 2, and 7/2.
+        assert_eq!(within(7, 3, (4, 2)), (1, 4));
+        assert_eq!(within(7, 3, (7, 2)), (-1, 5));
+        // 19/8 less 21/8 is -2/8 and 19/8 more 21/8 is 5; one eighth more or less moves an end.
+        assert_eq!(within(19, 8, (21, 8)), (0, 5));
+        assert_eq!(within(19, 8, (20, 8)), (0, 4));
+        assert_eq!(within(18, 8, (21, 8)), (0, 4));
+        // -9/16 less 71/16 is -5.
+        assert_eq!(within(-9, 16, (71, 16)), (-5, 3));
+        assert_eq!(within(-9, 16, (70, 16)), (-4, 3));
+        assert_eq!(within(-8, 16, (71, 16)), (-4, 3));
+    }
+
+    #[test]
+    fn multiples_are_compared_with_both_ends() {
+        // Three times 8/3 is 8, three times -8/3 is -8, twice 8/3 is 16/3.
+        for (numerator, times, low, high, expected) in [
+            (8, 3, 8, 8, true),
+            (8, 3, 9, 9, false),
+            (8, 3, 7, 7, false),
+            (-8, 3, -8, -8, true),
+            (8, 2, 5, 6, true),
+            (8, 2, 6, 7, false),
+            (8, 2, 4, 5, false),
+            (-8, 2, -6, -5, true),
+            (-8, 2, -5, 0, false),
+            (-8, 2, -9, -6, false),
+        ] {
+            let mixed = Mixed::new(0, numerator, 3);
+            let is_between = mixed.multiple_is_between(times, low, high);
+            assert_eq!(is_between, expected, "{times} × {numerator}/3");
+        }
     }
 }

@@ -1,7 +1,7 @@
 //! Scenes and scan bias: from an earth count to a brightness temperature or a mark.
 
 use super::bias::Pair;
-use super::rounding::{r, Fraction};
+use super::rounding::{r, Fraction, Mixed};
 use super::table::Table;
 use super::window::{cold_temperature, unrounded_warm_temperature, warm_temperature, ChannelSums};
 
@@ -44,18 +44,19 @@ pub fn rounded_share(n: i128, d: i128) -> i128 {
 /// T in units, for a scene not outside in a channel with flag 0.
 ///
 /// N × (Tw - Tc) is below 2^36 × 2^21. Tw is always above Tc (see `guard_fails`) and N not
-/// negative, so only the nonlinear term can be negative: for TNL below 0, or x above 1.
+/// negative, so only the nonlinear term can be negative: for TNL below 0, or x above 1. TNL is the whole one
+/// of the scan, from -8,192 to 8,192 as its pairs are.
 pub fn brightness_temperature(
     warm_temperature: i128,
     cold_temperature: i128,
-    peak_nonlinearity: i128,
+    nonlinearity: i128,
     n: i128,
     d: i128,
 ) -> i128 {
     let x = rounded_share(n, d);
     cold_temperature
         + r(n * (warm_temperature - cold_temperature), d)
-        + r(4 * x * (65_536 - x) * peak_nonlinearity, 1 << 32)
+        + r(4 * x * (65_536 - x) * nonlinearity, 1 << 32)
 }
 
 /// Whether T is below 1 or above 16,777,215.
@@ -80,44 +81,54 @@ pub fn kelvin(biased: i128) -> f32 {
 
 /// E for a scene not outside in a channel with flag 0, with both denominators above 0.
 ///
-/// E = Tc + (N / D) × (S / V - Tc) + 4 × (N / D) × ((D - N) / D) × TNL, S / V the unrounded Tw.
-/// Over D² V with D below 2^36, V at most 255² and Tc and Tw below 2^21, everything is
-/// below 2^(72 + 16 + 21 + 3), inside i128.
+/// E = Tc + (N / D) × (S / V - Tc) + 4 × (N / D) × ((D - N) / D) × (L / U), S / V the unrounded Tw and L / U
+/// the unrounded TNL. D² V U, below which both fractions are brought, is below 2^107: D is at most
+/// 255² × 786,420, V at most 255² and U at most 491,517.
 pub fn exact_temperature(
     unrounded_warm_temperature: Fraction,
     cold_temperature: i128,
-    peak_nonlinearity: i128,
+    unrounded_nonlinearity: Fraction,
     n: i128,
     d: i128,
-) -> Fraction {
+) -> Mixed {
     let s = unrounded_warm_temperature.numerator;
     let v = unrounded_warm_temperature.denominator;
-    Fraction {
-        numerator: cold_temperature * d * d * v
-            + n * d * (s - cold_temperature * v)
-            + 4 * n * (d - n) * peak_nonlinearity * v,
-        denominator: d * d * v,
-    }
+    let l = unrounded_nonlinearity.numerator;
+    let u = unrounded_nonlinearity.denominator;
+    let linear = Mixed::new(cold_temperature, n * (s - cold_temperature * v), d * v);
+    let curve = Mixed::new(0, 4 * n * (d - n) * l, d * d * u);
+    Mixed::new(
+        linear.whole + curve.whole,
+        linear.numerator * d * u + curve.numerator * v,
+        d * d * v * u,
+    )
 }
 
-/// E of a count in a channel.
-pub fn exact_scene(table: &Table, channel: usize, sums: &ChannelSums, count: u16) -> Fraction {
+/// E of a count in a channel with this unrounded TNL.
+pub fn exact_scene(
+    table: &Table,
+    channel: usize,
+    sums: &ChannelSums,
+    unrounded_nonlinearity: Fraction,
+    count: u16,
+) -> Mixed {
     exact_temperature(
         unrounded_warm_temperature(table, channel, sums),
         cold_temperature(table, channel),
-        table.channels[channel].peak_nonlinearity,
+        unrounded_nonlinearity,
         numerator(sums, count),
         sums.difference(),
     )
 }
 
-/// T of an earth count in a channel with this flag, before scan bias, or its mark.
+/// T of an earth count in a channel with this TNL and flag, before scan bias, or its mark.
 ///
 /// With flag 0 no sum below a fraction bar is 0: percentages and full sums are at least 1.
 pub fn temperature(
     table: &Table,
     channel: usize,
     sums: &ChannelSums,
+    nonlinearity: i128,
     flag: u8,
     count: u16,
 ) -> Result<i128, Scene> {
@@ -132,7 +143,7 @@ pub fn temperature(
     let temperature = brightness_temperature(
         warm_temperature(table, channel, sums),
         cold_temperature(table, channel),
-        table.channels[channel].peak_nonlinearity,
+        nonlinearity,
         n,
         d,
     );
@@ -166,21 +177,48 @@ mod tests {
     use crate::generator::tables::TableValues;
     use crate::second::bias::open_bias;
     use crate::second::record::ScanRecord;
+    use crate::second::shelf::{nonlinearity_for_scan, unrounded_nonlinearity_for_scan};
     use crate::second::table::open;
     use crate::second::window::{channel_sums, window, SideSums, ThermometerSums};
 
-    /// The bench table, and the sums of a channel after the bench scan.
-    fn bench() -> (Table, ChannelSums) {
-        let table = open(&TableValues::bench().encode()).unwrap();
-        let record = ScanRecord::read(&RecordValues::bench().encode()).unwrap();
-        let sums = channel_sums(&table, &window(&table, &[record]), 3);
-        (table, sums)
+    /// Channel 4 of one scan.
+    struct Fourth {
+        table: Table,
+        record: ScanRecord,
+        sums: ChannelSums,
+    }
+
+    impl Fourth {
+        fn of(table: &TableValues, record: &RecordValues) -> Fourth {
+            let table = open(&table.encode()).unwrap();
+            let record = ScanRecord::read(&record.encode()).unwrap();
+            let sums = channel_sums(&table, &window(&table, &[record.clone()]), 3);
+            Fourth {
+                table,
+                record,
+                sums,
+            }
+        }
+
+        fn bench() -> Fourth {
+            Fourth::of(&TableValues::bench(), &RecordValues::bench())
+        }
+
+        /// T or the mark of a count.
+        fn temperature(&self, count: u16) -> Result<i128, Scene> {
+            let tnl = nonlinearity_for_scan(&self.table, &self.record, 3);
+            temperature(&self.table, 3, &self.sums, tnl, 0, count)
+        }
+
+        fn exact(&self, count: u16) -> Mixed {
+            let tnl = unrounded_nonlinearity_for_scan(&self.table, &self.record, 3);
+            exact_scene(&self.table, 3, &self.sums, tnl, count)
+        }
     }
 
     /// T or the mark of a count of the bench scan.
     fn bench_temperature(count: u16) -> Result<i128, Scene> {
-        let (table, sums) = bench();
-        temperature(&table, 3, &sums, 0, count)
+        Fourth::bench().temperature(count)
     }
 
     /// The scene of a count of the bench scan under the bench bias file.
@@ -225,10 +263,10 @@ mod tests {
 
     #[test]
     fn a_bias_of_zeros_gives_the_scene_without_bias() {
-        let (table, sums) = bench();
+        let bench = Fourth::bench();
         let none = Pair { c0: 0, e: 0 };
         for count in 9_000..23_000 {
-            let temperature = temperature(&table, 3, &sums, 0, count);
+            let temperature = bench.temperature(count);
             let without = scene_without_bias(temperature);
             assert_eq!(scene(temperature, none), without, "{count}");
         }
@@ -270,7 +308,7 @@ mod tests {
             },
         };
         for flag in 1..=4 {
-            let mark = temperature(&table, 0, &sums, flag, 0);
+            let mark = temperature(&table, 0, &sums, 400, flag, 0);
             assert_eq!(mark, Err(Scene::FlaggedChannel));
         }
     }
@@ -318,13 +356,12 @@ mod tests {
         // Suppliers computed x from the rounded temperature. The bench scan with TNL 8,192 and
         // earth count 10,028.
         let mut values = TableValues::bench();
-        values.channels[3].peak_nonlinearity = 8_192;
-        let table = open(&values.encode()).unwrap();
-        let record = ScanRecord::read(&RecordValues::bench().encode()).unwrap();
-        let sums = channel_sums(&table, &window(&table, &[record]), 3);
-        assert_eq!(temperature(&table, 3, &sums, 0, 10_028), Ok(14_359));
+        values.channels[3].shelf_pairs[2].nonlinearity = 8_192;
+        let fourth = Fourth::of(&values, &RecordValues::bench());
+        assert_eq!(fourth.temperature(10_028), Ok(14_359));
 
-        let (n, d) = (numerator(&sums, 10_028), sums.difference());
+        let sums = &fourth.sums;
+        let (n, d) = (numerator(sums, 10_028), sums.difference());
         let (warm, cold) = (1_118_822, 11_166);
         let linear = r(n * (warm - cold), d);
         let x = r(65_536 * linear, warm - cold);
@@ -334,33 +371,84 @@ mod tests {
 
     #[test]
     fn e_is_the_fraction_of_document_01() {
-        // x = 1/4, Tw = 1,000,001 / 2, Tc = 20,000, TNL = 6: E = 20,000 + 120,000.125 + 4.5.
+        // x = 1/4, Tw = 1,000,001 / 2, Tc = 20,000, TNL = 20 / 3: E = 20,000 + 120,000.125 + 5.
         let warm = Fraction {
             numerator: 1_000_001,
             denominator: 2,
         };
-        let e = exact_temperature(warm, 20_000, 6, 1, 4);
-        assert_eq!(e.numerator * 1_000, e.denominator * 140_004_625);
+        let nonlinearity = Fraction {
+            numerator: 20,
+            denominator: 3,
+        };
+        let e = exact_temperature(warm, 20_000, nonlinearity, 1, 4);
+        assert_eq!(e.whole, 140_005);
+        assert_eq!(8 * e.numerator, e.denominator);
     }
 
     #[test]
-    fn a_delivered_temperature_is_within_7_halves_of_equation_30() {
-        let (table, sums) = bench();
-        let distance = Fraction {
-            numerator: 7,
-            denominator: 2,
+    fn e_of_the_widest_window_stays_inside() {
+        // x = 5/4, Tw a part of V below 1,368,678 and TNL a part of U above -8,192.
+        let (d, v, u) = (255 * 255 * 786_420, 255 * 255, 491_517);
+        let warm = Fraction {
+            numerator: 1_368_678 * v - 1,
+            denominator: v,
         };
-        for (c0, e) in [(0, 0), (-4_096, -32_768), (4_096, 32_767), (5, 16_384)] {
-            let pair = Pair { c0, e };
-            for count in (10_000..=22_500).step_by(13) {
-                let exact = pair.exact(exact_scene(&table, 3, &sums, count));
-                let t = temperature(&table, 3, &sums, 0, count).unwrap();
-                assert!(
-                    exact.is_within(distance, pair.biased(t)),
-                    "{count} {pair:?}"
-                );
-                assert!(!exact.is_within(distance, pair.biased(t) + 8));
-                assert!(!exact.is_within(distance, pair.biased(t) - 8));
+        let nonlinearity = Fraction {
+            numerator: -8_192 * u + 1,
+            denominator: u,
+        };
+        let e = exact_temperature(warm, 11_166, nonlinearity, d / 4 * 5, d);
+        // 11,166 + 5/4 × 1,357,512 + 5/4 × 8,192 less 5/4 of a part of each.
+        assert_eq!(e.whole, 1_718_295);
+        let missing = e.denominator - e.numerator;
+        assert_eq!(4 * missing, 5 * d * d * (u + v));
+    }
+
+    #[test]
+    fn e_takes_the_unrounded_nonlinearity() {
+        // TNL is 2.5, rounded to 3. At x = 1/2 E is 11,166 + 553,828 + 2.5, and T half a unit above it.
+        let mut values = TableValues::bench();
+        values.channels[3].shelf_pairs[2].nonlinearity = 2;
+        values.channels[3].shelf_pairs[3].nonlinearity = 3;
+        let mut record = RecordValues::bench();
+        record.shelves[1] = 61_440;
+        let fourth = Fourth::of(&values, &record);
+        let e = fourth.exact(15_000);
+        assert_eq!(e.whole, 564_996);
+        assert_eq!(2 * e.numerator, e.denominator);
+        assert_eq!(fourth.temperature(15_000), Ok(564_997));
+    }
+
+    #[test]
+    fn a_delivered_temperature_is_near_e_and_near_equation_30() {
+        let eighths = Fraction {
+            numerator: 21,
+            denominator: 8,
+        };
+        let sixteenths = Fraction {
+            numerator: 71,
+            denominator: 16,
+        };
+        let mut values = TableValues::bench();
+        let tnls = [-8_192, 8_192, -3, 2, 8_191];
+        for (pair, tnl) in values.channels[3].shelf_pairs.iter_mut().zip(tnls) {
+            pair.nonlinearity = tnl;
+        }
+        let mut record = RecordValues::bench();
+        for shelf in [0, 61_440, -100_001, 200_003] {
+            record.shelves[1] = shelf;
+            let fourth = Fourth::of(&values, &record);
+            for (c0, e) in [(0, 0), (-4_096, -32_768), (4_096, 32_767), (5, 16_384)] {
+                let pair = Pair { c0, e };
+                for count in (10_000..=22_500).step_by(13) {
+                    let exact = fourth.exact(count);
+                    let t = fourth.temperature(count).unwrap();
+                    assert!(exact.is_within(eighths, t), "{count} {shelf}");
+                    let (exact, b) = (pair.exact(exact), pair.biased(t));
+                    assert!(exact.is_within(sixteenths, b), "{count} {shelf} {pair:?}");
+                    assert!(!exact.is_within(sixteenths, b + 9));
+                    assert!(!exact.is_within(sixteenths, b - 9));
+                }
             }
         }
     }

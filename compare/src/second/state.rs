@@ -1,4 +1,4 @@
-//! The state, 11,114 bytes: a calibrator as bytes, and the C functions that take one.
+//! The state, 11,777 bytes: a calibrator as bytes, and the C functions that take one.
 
 use super::bias::open_bias;
 use super::bytes::{layout_is_right, u32_at, value};
@@ -7,11 +7,11 @@ use super::table::{open, AGES, CHANNELS, THERMOMETERS};
 use super::thermometer::{inside, HIGHEST_T, KELVIN_OF_ZERO_CELSIUS, LOWEST_T};
 use super::window::{KeptScan, Start};
 
-pub const LENGTH: usize = 11_114;
+pub const LENGTH: usize = 11_777;
 
 pub const LAYOUT: [(u8, usize); 7] = [
     (0x30, 8),
-    (0x31, 741),
+    (0x31, 1_404),
     (0x32, 5),
     (0x33, 704),
     (0x34, 704),
@@ -22,7 +22,7 @@ pub const LAYOUT: [(u8, usize); 7] = [
 /// `SNDR` in ASCII.
 pub const MAGIC: u32 = 0x534e_4452;
 
-pub const VERSION: u32 = 3;
+pub const VERSION: u32 = 4;
 
 /// The answer where bytes are no state, or where a state has no room.
 pub const NO_STATE: u8 = 254;
@@ -245,24 +245,24 @@ mod tests {
     }
 
     #[test]
-    fn a_state_has_11_114_bytes_in_seven_fields() {
+    fn a_state_has_11_777_bytes_in_seven_fields() {
         assert_eq!(layout_length(&LAYOUT), LENGTH);
         assert_eq!(state_size(), LENGTH);
         let state = fresh_bench();
         assert!(layout_is_right(&state, &LAYOUT));
-        assert_eq!(state[..11], *b"\x30\0\x08SNDR\0\0\0\x03");
-        assert_eq!(state[11..14], [0x31, 0x02, 0xe5]);
-        assert_eq!(state[14..755], TableValues::bench().encode());
-        assert_eq!(state[755..758], [0x32, 0, 5]);
-        assert_eq!(state[758..763], [0; 5]);
-        assert_eq!(state[763..766], [0x33, 0x02, 0xc0]);
-        assert_eq!(state[766..1_470], [0; 704]);
-        assert_eq!(state[1_470..1_473], [0x34, 0x02, 0xc0]);
-        assert_eq!(state[1_473..2_177], [0; 704]);
-        assert_eq!(state[2_177..2_180], [0x35, 0x01, 0xe0]);
-        assert_eq!(state[2_180..2_660], [0; 480]);
-        assert_eq!(state[2_660..2_663], [0x36, 0x21, 0x03]);
-        assert_eq!(state[2_663..], BiasValues::zeros().encode());
+        assert_eq!(state[..11], *b"\x30\0\x08SNDR\0\0\0\x04");
+        assert_eq!(state[11..14], [0x31, 0x05, 0x7c]);
+        assert_eq!(state[14..1_418], TableValues::bench().encode());
+        assert_eq!(state[1_418..1_421], [0x32, 0, 5]);
+        assert_eq!(state[1_421..1_426], [0; 5]);
+        assert_eq!(state[1_426..1_429], [0x33, 0x02, 0xc0]);
+        assert_eq!(state[1_429..2_133], [0; 704]);
+        assert_eq!(state[2_133..2_136], [0x34, 0x02, 0xc0]);
+        assert_eq!(state[2_136..2_840], [0; 704]);
+        assert_eq!(state[2_840..2_843], [0x35, 0x01, 0xe0]);
+        assert_eq!(state[2_843..3_323], [0; 480]);
+        assert_eq!(state[3_323..3_326], [0x36, 0x21, 0x03]);
+        assert_eq!(state[3_326..], BiasValues::zeros().encode());
     }
 
     #[test]
@@ -270,10 +270,10 @@ mod tests {
         let mut state = fresh_bench();
         assert_eq!(fed(&mut state, 7), 0);
         let mut expected = fresh_bench();
-        expected[758..763].copy_from_slice(&[1, 0, 0, 0, 7]);
-        expected[766..854].copy_from_slice(&[0, 3, 0xa9, 0x81].repeat(22));
-        expected[1_473..1_561].copy_from_slice(&[0, 1, 0xd4, 0xc1].repeat(22));
-        expected[2_180..2_240].copy_from_slice(&[0, 0x11, 0x12, 0x66].repeat(15));
+        expected[1_421..1_426].copy_from_slice(&[1, 0, 0, 0, 7]);
+        expected[1_429..1_517].copy_from_slice(&[0, 3, 0xa9, 0x81].repeat(22));
+        expected[2_136..2_224].copy_from_slice(&[0, 1, 0xd4, 0xc1].repeat(22));
+        expected[2_843..2_903].copy_from_slice(&[0, 0x11, 0x12, 0x66].repeat(15));
         assert_eq!(state, expected);
     }
 
@@ -281,7 +281,7 @@ mod tests {
     fn a_state_keeps_its_bias_file_and_feeds_with_it() {
         let bias = any_bias(&mut Random::new(3));
         let mut state = fresh_under(&bias);
-        assert_eq!(state[2_663..], bias.encode());
+        assert_eq!(state[3_326..], bias.encode());
         let mut calibrator =
             Calibrator::of_files(&TableValues::bench().encode(), &bias.encode()).unwrap();
         for number in [7, 8, 10] {
@@ -292,23 +292,24 @@ mod tests {
                 .calibrator;
             assert_eq!(buffers[0], buffers[1]);
             assert_eq!(state, write(&calibrator));
-            assert_eq!(state[2_663..], bias.encode());
+            assert_eq!(state[3_326..], bias.encode());
         }
+    }
+
+    /// The answer to an empty record, fed to the fresh bench state with a change: 4 where it still is a state.
+    fn answer(change: &dyn Fn(&mut Vec<u8>)) -> u8 {
+        let mut state = fresh_bench();
+        change(&mut state);
+        feed(&mut state, &[], &mut [])
     }
 
     #[test]
     fn a_bias_file_in_a_state_is_opened_again() {
-        let answer = |change: &dyn Fn(&mut Vec<u8>)| {
-            let mut state = fresh_bench();
-            change(&mut state);
-            feed(&mut state, &[], &mut [])
-        };
-        // An empty record is refused with 4 where the bytes are a state.
         assert_eq!(answer(&|_| {}), 4);
-        for at in 2_660..2_666 {
+        for at in 3_323..3_329 {
             assert_eq!(answer(&|state| state[at] ^= 1), 254, "byte {at}");
         }
-        for at in [2_666, 11_110] {
+        for at in [3_329, 11_773] {
             for (c0, expected) in [(-4_097, 254), (-4_096, 4), (4_096, 4), (4_097, 254)] {
                 let put = |state: &mut Vec<u8>| {
                     state[at..at + 2].copy_from_slice(&i16::to_be_bytes(c0));
@@ -317,10 +318,44 @@ mod tests {
                 assert_eq!(answer(&put), expected, "c0 {c0} at {at}");
             }
         }
-        assert_eq!(answer(&|state| state[10] = 1), 254);
-        assert_eq!(answer(&|state| state.truncate(11_113)), 254);
+        for version in [0, 1, 2, 3, 5] {
+            assert_eq!(answer(&|state| state[10] = version), 254, "{version}");
+        }
+        assert_eq!(answer(&|state| state.truncate(11_776)), 254);
         assert_eq!(answer(&|state| state.push(0)), 4);
-        assert_eq!(answer(&|state| state.truncate(2_660)), 254);
+        assert_eq!(answer(&|state| state.truncate(3_323)), 254);
+    }
+
+    #[test]
+    fn a_state_has_the_table_with_its_pairs() {
+        // The last pair of the last channel, and the TNL of field 0x12 of channel 1.
+        assert_eq!(answer(&|state| state[1_413] = 0x04), 254);
+        assert_eq!(answer(&|state| state[1_417] ^= 1), 4);
+        assert_eq!(answer(&|state| state[14 + 320] = 1), 254);
+        // A table without pairs, as states of version 3 have it: 11,114 bytes, and with 663 more behind.
+        let without_pairs = |state: &mut Vec<u8>| {
+            state[10] = 3;
+            state[12..14].copy_from_slice(&[0x02, 0xe5]);
+            state.drain(755..1_418);
+        };
+        assert_eq!(answer(&without_pairs), 254);
+        let longer = |state: &mut Vec<u8>| {
+            without_pairs(state);
+            state.extend([0; 663]);
+        };
+        assert_eq!(answer(&longer), 254);
+    }
+
+    #[test]
+    fn a_state_keeps_nothing_of_the_shelves() {
+        let mut states = [fresh_bench(), fresh_bench()];
+        let mut record = RecordValues::bench();
+        for (state, shelves) in states.iter_mut().zip([[0; 4], [i32::MIN, 5, -5, i32::MAX]]) {
+            record.shelves = shelves;
+            let answer = feed(state, &record.encode(), &mut vec![0; product::LENGTH]);
+            assert_eq!(answer, 0);
+        }
+        assert_eq!(states[0], states[1]);
     }
 
     #[test]
@@ -332,15 +367,15 @@ mod tests {
         }
         let ages = |present: [u32; 8], one: u32| present.map(|present| present * one).to_vec();
         let present = [1, 0, 0, 1, 1, 0, 0, 0];
-        assert_eq!(by_age(&state, 766 + 84, 88), ages(present, warm));
-        assert_eq!(by_age(&state, 1_473, 88), ages(present, cold));
-        assert_eq!(by_age(&state, 2_180 + 56, 60), ages(present, kelvin));
+        assert_eq!(by_age(&state, 1_429 + 84, 88), ages(present, warm));
+        assert_eq!(by_age(&state, 2_136, 88), ages(present, cold));
+        assert_eq!(by_age(&state, 2_843 + 56, 60), ages(present, kelvin));
         assert_eq!(fed(&mut state, 13), 0);
         let present = [1, 0, 0, 0, 1, 0, 0, 1];
-        assert_eq!(by_age(&state, 766 + 84, 88), ages(present, warm));
+        assert_eq!(by_age(&state, 1_429 + 84, 88), ages(present, warm));
         assert_eq!(fed(&mut state, u32::MAX), 0);
         let present = [1, 0, 0, 0, 0, 0, 0, 0];
-        assert_eq!(by_age(&state, 766, 88), ages(present, warm));
+        assert_eq!(by_age(&state, 1_429, 88), ages(present, warm));
         assert_eq!(fed(&mut state, u32::MAX), 6);
     }
 
@@ -381,6 +416,6 @@ mod tests {
         assert_eq!((&longer[..LENGTH], longer[LENGTH]), (&fresh_bench()[..], 9));
         assert_eq!(feed(&mut longer, &numbered(7), &mut buffer), 0);
         assert_eq!((buffer[product::LENGTH], longer[LENGTH]), (8, 9));
-        assert_eq!(longer[758..763], [1, 0, 0, 0, 7]);
+        assert_eq!(longer[1_421..1_426], [1, 0, 0, 0, 7]);
     }
 }

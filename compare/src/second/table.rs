@@ -1,4 +1,4 @@
-//! The table, 741 bytes, and the operation Opening a table.
+//! The table, 1,404 bytes, and the operation Opening a table.
 
 use super::bytes::{i16_at, i32_at, layout_is_right, layout_length, u16_at, u32_at, value};
 use super::thermometer::{inside, Coefficients, HIGHEST_T, LOWEST_T, RESISTANCE_RANGE};
@@ -7,7 +7,10 @@ pub const AGES: usize = 8;
 pub const THERMOMETERS: usize = 15;
 pub const CHANNELS: usize = 22;
 
-pub const LAYOUT: [(u8, usize); 3] = [(0x10, 37), (0x11, 255), (0x12, 440)];
+/// Pairs of shelf temperature and TNL of a channel.
+pub const PAIRS: usize = 5;
+
+pub const LAYOUT: [(u8, usize); 4] = [(0x10, 37), (0x11, 255), (0x12, 440), (0x14, 660)];
 
 /// The side of a channel's calibration counts.
 #[derive(Clone, Copy, Debug, PartialEq, Eq)]
@@ -46,6 +49,36 @@ impl Target {
     }
 }
 
+/// A receiver shelf.
+#[derive(Clone, Copy, Debug, PartialEq, Eq)]
+pub enum Shelf {
+    Kka,
+    V,
+    W,
+    G,
+}
+
+pub const SHELVES: [Shelf; 4] = [Shelf::Kka, Shelf::V, Shelf::W, Shelf::G];
+
+impl Shelf {
+    /// The shelf that the channel with this index from 0 uses.
+    pub fn of_channel(channel: usize) -> Shelf {
+        match channel + 1 {
+            1..=2 => Shelf::Kka,
+            3..=15 => Shelf::V,
+            16 => Shelf::W,
+            _ => Shelf::G,
+        }
+    }
+}
+
+/// A shelf temperature, in units of °C, and the TNL that a channel has at it.
+#[derive(Clone, Copy, Debug, PartialEq, Eq)]
+pub struct ShelfPair {
+    pub temperature: i128,
+    pub nonlinearity: i128,
+}
+
 /// Limits, ends included, and the greatest difference that does not count.
 #[derive(Clone, Copy, Debug)]
 pub struct Limits {
@@ -71,8 +104,9 @@ pub struct Channel {
     pub rayleigh_jeans: i128,
     /// sl.
     pub side_lobe: i128,
-    /// TNL.
-    pub peak_nonlinearity: i128,
+    /// The TNL of field 0x12, which has to be 0.
+    pub zero_nonlinearity: i128,
+    pub shelf_pairs: [ShelfPair; PAIRS],
 }
 
 impl Channel {
@@ -81,6 +115,16 @@ impl Channel {
             Side::Warm => self.warm,
             Side::Cold => self.cold,
         }
+    }
+
+    /// Whether the pairs are in their ranges and their shelf temperatures rise strictly.
+    fn shelf_pairs_are_right(&self) -> bool {
+        let in_range = self.shelf_pairs.iter().all(|pair| {
+            inside(pair.temperature, (LOWEST_T, HIGHEST_T))
+                && inside(pair.nonlinearity, (-8_192, 8_192))
+        });
+        let rises = |two: &[ShelfPair]| two[0].temperature < two[1].temperature;
+        in_range && self.shelf_pairs.windows(2).all(rises)
     }
 }
 
@@ -164,14 +208,15 @@ impl Table {
                 && inside(channel.warm_bias, (-4_096, 4_096))
                 && inside(channel.rayleigh_jeans, correction)
                 && inside(channel.side_lobe, correction)
-                && inside(channel.peak_nonlinearity, (-8_192, 8_192))
+                && channel.zero_nonlinearity == 0
         });
+        let field_14 = self.channels.iter().all(Channel::shelf_pairs_are_right);
         let sums = inside(self.sum_of_count_weights(), sum)
             && inside(self.sum_of_thermometer_weights(), sum)
             && TARGETS
                 .iter()
                 .all(|target| inside(self.sum_of_target_weights(*target), sum));
-        field_10 && field_11 && field_12 && sums
+        field_10 && field_11 && field_12 && field_14 && sums
     }
 }
 
@@ -181,6 +226,13 @@ fn limits_at(row: &[u8], at: usize) -> Limits {
         upp: u16_at(row, at + 2) as i128,
         difference: u16_at(row, at + 4) as i128,
     }
+}
+
+fn shelf_pairs_at(row: &[u8]) -> [ShelfPair; PAIRS] {
+    std::array::from_fn(|index| ShelfPair {
+        temperature: i32_at(row, 6 * index) as i128,
+        nonlinearity: i16_at(row, 6 * index + 4) as i128,
+    })
 }
 
 /// The values of bytes whose layout is right, in whatever range.
@@ -201,13 +253,15 @@ fn read(bytes: &[u8]) -> Table {
         .collect();
     let channels = value(bytes, &LAYOUT, 2)
         .chunks(20)
-        .map(|row| Channel {
+        .zip(value(bytes, &LAYOUT, 3).chunks(30))
+        .map(|(row, pairs)| Channel {
             warm: limits_at(row, 0),
             cold: limits_at(row, 6),
             warm_bias: i16_at(row, 12) as i128,
             rayleigh_jeans: u16_at(row, 14) as i128,
             side_lobe: u16_at(row, 16) as i128,
-            peak_nonlinearity: i16_at(row, 18) as i128,
+            zero_nonlinearity: i16_at(row, 18) as i128,
+            shelf_pairs: shelf_pairs_at(pairs),
         })
         .collect();
     Table {
@@ -249,11 +303,11 @@ pub fn open(bytes: &[u8]) -> Result<Table, u8> {
 mod tests {
     use super::*;
     use crate::generator::table_neighbours::table_neighbours;
-    use crate::generator::tables::TableValues;
+    use crate::generator::tables::{ShelfPairValues, TableValues};
 
     #[test]
-    fn a_table_has_741_bytes() {
-        assert_eq!(layout_length(&LAYOUT), 741);
+    fn a_table_has_1_404_bytes() {
+        assert_eq!(layout_length(&LAYOUT), 1_404);
     }
 
     #[test]
@@ -267,7 +321,7 @@ mod tests {
         values.lowest_t = -245_760;
         values.highest_t = -3;
         values.thermometers[14].beta = 499_999;
-        values.channels[21].peak_nonlinearity = -8_192;
+        values.channels[21].shelf_pairs[4].nonlinearity = -8_192;
         values.channels[21].cold_upp = 777;
         let table = open(&values.encode()).unwrap();
         assert_eq!(table.count_weights, [1, 2, 3, 4, 5, 6, 7, 8]);
@@ -285,7 +339,13 @@ mod tests {
         assert_eq!(table.thermometers[14].coefficients.beta, 499_999);
         assert_eq!(table.thermometers[14].weight, 1);
         assert_eq!(table.channels.len(), 22);
-        assert_eq!(table.channels[21].peak_nonlinearity, -8_192);
+        let pair = |channel: usize, index: usize| {
+            let pair = table.channels[channel].shelf_pairs[index];
+            (pair.temperature, pair.nonlinearity)
+        };
+        assert_eq!(pair(21, 4), (245_760, -8_192));
+        assert_eq!(pair(21, 3), (122_880, 400));
+        assert_eq!(pair(0, 0), (-245_760, 400));
         assert_eq!(table.channels[21].limits(Side::Cold).upp, 777);
         assert_eq!(table.channels[0].limits(Side::Warm).upp, 65_535);
         assert_eq!(table.sum_of_target_weights(Target::Kav), 8);
@@ -305,13 +365,100 @@ mod tests {
     }
 
     #[test]
+    fn pairs_stand_channel_by_channel_with_the_shelf_temperature_first() {
+        let mut bytes = TableValues::bench().encode();
+        assert_eq!(bytes[741..744], [0x14, 0x02, 0x94]);
+        // Pair 1 of channel 1, pair 2 of channel 3 and pair 5 of channel 22.
+        bytes[744..750].copy_from_slice(&[0xff, 0xfc, 0x40, 0x01, 0x00, 0x01]);
+        bytes[744 + 60 + 6..][..6].copy_from_slice(&[0xff, 0xff, 0xff, 0xff, 0xe0, 0x00]);
+        bytes[1_398..].copy_from_slice(&[0x00, 0x03, 0xbf, 0xff, 0x20, 0x00]);
+        let table = open(&bytes).unwrap();
+        let pair = |channel: usize, index: usize| {
+            let pair = table.channels[channel].shelf_pairs[index];
+            (pair.temperature, pair.nonlinearity)
+        };
+        assert_eq!(pair(0, 0), (-245_759, 1));
+        assert_eq!(pair(2, 1), (-1, -8_192));
+        assert_eq!(pair(21, 4), (245_759, 8_192));
+        let all = (0..CHANNELS).flat_map(|channel| (0..PAIRS).map(move |index| (channel, index)));
+        let changed = all.filter(|(channel, index)| pair(*channel, *index).1 != 400);
+        assert_eq!(changed.count(), 3);
+    }
+
+    /// The answer to the bench table with some pairs of a channel changed.
+    fn answer_with(channel: usize, change: impl Fn(&mut [ShelfPairValues; 5])) -> u8 {
+        let mut values = TableValues::bench();
+        change(&mut values.channels[channel].shelf_pairs);
+        open(&values.encode()).err().unwrap_or(0)
+    }
+
+    #[test]
+    fn shelf_temperatures_rise_strictly() {
+        for channel in [0, 14, 21] {
+            for index in 0..PAIRS - 1 {
+                for (rise, expected) in [(1, 0), (0, 3), (-1, 3)] {
+                    let answer = answer_with(channel, |pairs| {
+                        pairs[index + 1].temperature = pairs[index].temperature + rise;
+                    });
+                    assert_eq!(answer, expected, "{rise} behind pair {}", index + 1);
+                }
+            }
+        }
+    }
+
+    #[test]
+    fn pairs_have_their_ranges() {
+        let temperature =
+            |index: usize, value: i32| answer_with(16, |pairs| pairs[index].temperature = value);
+        assert_eq!(temperature(0, -245_760), 0);
+        assert_eq!(temperature(0, -245_761), 3);
+        assert_eq!(temperature(4, 245_760), 0);
+        assert_eq!(temperature(4, 245_761), 3);
+        for index in 0..PAIRS {
+            for (value, expected) in [(-8_193, 3), (-8_192, 0), (8_192, 0), (8_193, 3)] {
+                let answer = answer_with(16, |pairs| pairs[index].nonlinearity = value);
+                assert_eq!(answer, expected, "TNL {value} of pair {}", index + 1);
+            }
+        }
+    }
+
+    #[test]
+    fn the_nonlinearity_of_field_12_is_0() {
+        for channel in 0..CHANNELS {
+            for (value, expected) in [(-8_192, 3), (-1, 3), (0, 0), (1, 3), (400, 3)] {
+                let mut values = TableValues::bench();
+                values.channels[channel].zero_nonlinearity = value;
+                let answer = open(&values.encode()).err().unwrap_or(0);
+                assert_eq!(answer, expected, "{value} in channel {}", channel + 1);
+            }
+        }
+    }
+
+    #[test]
+    fn a_table_without_pairs_is_refused_with_1() {
+        let bytes = TableValues::bench().encode();
+        assert_eq!(open(&bytes[..741]).err(), Some(1));
+        assert_eq!(open(&bytes[..1_403]).err(), Some(1));
+        assert!(open(&bytes).is_ok());
+    }
+
+    #[test]
+    fn each_channel_has_its_shelf() {
+        let shelves: Vec<Shelf> = (0..CHANNELS).map(Shelf::of_channel).collect();
+        assert_eq!(shelves[..2], [Shelf::Kka; 2]);
+        assert_eq!(shelves[2..15], [Shelf::V; 13]);
+        assert_eq!(shelves[15..16], [Shelf::W; 1]);
+        assert_eq!(shelves[16..], [Shelf::G; 6]);
+    }
+
+    #[test]
     fn the_first_test_that_applies_decides() {
         let mut bytes = TableValues::bench().encode();
         assert!(open(&bytes).is_ok());
         // A percentage of 0 and a wrong last tag: 2 before 3.
         bytes[3 + 16] = 0;
         assert_eq!(open(&bytes).err(), Some(3));
-        bytes[298] = 0x13;
+        bytes[741] = 0x13;
         assert_eq!(open(&bytes).err(), Some(2));
         bytes.push(0);
         assert_eq!(open(&bytes).err(), Some(1));

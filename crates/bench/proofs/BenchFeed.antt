@@ -10,7 +10,8 @@ use Rattle.lists.specs.Build.{tabulate, cells}
 use Rattle.lists.specs.Tests.{passes}
 use Rattle.lists.specs.Sum.{sum}
 use Rattle.fields.specs.Fields.{fieldIsRight, layoutIsRight}
-use Rattle.record.specs.Record.{scanNumber, earthCounts}
+use Rattle.record.specs.Record.{scanNumber, earthCounts, shelfTemperatures}
+use Rattle.nonlinearity.specs.Interpolation.{abovePair, unroundedTnl, tnlOf}
 use Rattle.window.specs.Ages.{noScan, windowOf, shifted, windowAfter}
 use Rattle.window.specs.Sums.{weightSum, valueSum, thermometerWeights, thermometerSum, meansFrom}
 use Rattle.window.specs.Means.{flagOf, constantsOf, stateOf}
@@ -20,14 +21,14 @@ use Rattle.product.specs.Product.{productOf, deliveredCount, productSize}
 use Rattle.calibrator.specs.Refusals.{delivered as accepted}
 use Rattle.calibrator.specs.Feeding.{keptBy, nextChannels, verdictIn, step}
 use Rattle.instrument.specs.Instrument.{channels}
-use Rattle.bench.specs.Bench.{benchTable, benchScan, benchCalibrator, benchSettings, benchChannel}
+use Rattle.bench.specs.Bench.{benchTable, shelfBytes, benchScan, benchCalibrator, benchSettings, benchChannel}
 use Rattle.bench.proofs.BenchScan.{benchKept, bench-kept, earth-field}
 use Rattle.bench.proofs.FirstFeed.{deliversT, states-by-kept, Gives, first-passes, first-outcome, first-reply}
 
 -- the channels of what the bench scan keeps
-pub channels-of-kept : (scan : List ℕ) → scanNumber scan ≡ 7 → keptBy benchSettings scan ≡ benchKept → nextChannels benchCalibrator scan ≡ replicate channels benchChannel
-unfolding benchTable windowOf windowAfter shifted noScan cells tabulate stateOf flagOf constantsOf meansFrom weightSum valueSum thermometerWeights thermometerSum sum r floor
-channels-of-kept scan number kept = states-by-kept scan benchKept number kept
+pub channels-of-kept : (scan : List ℕ) → scanNumber scan ≡ 7 → shelfTemperatures scan ≡ shelfBytes → keptBy benchSettings scan ≡ benchKept → nextChannels benchCalibrator scan ≡ replicate channels benchChannel
+unfolding benchTable shelfBytes windowOf windowAfter shifted noScan cells tabulate stateOf flagOf constantsOf tnlOf unroundedTnl abovePair meansFrom weightSum valueSum thermometerWeights thermometerSum sum r floor
+channels-of-kept scan number shelves kept = states-by-kept scan benchKept number shelves kept
 
 pub scene-delivered : delivered (sceneIn unbiased benchChannel 15000) ≡ true
 unfolding sceneIn sceneOf r floor
@@ -38,12 +39,16 @@ module _ (earth : ℕ) where
   unfolding benchScan
   number = refl
 
+  shelves : shelfTemperatures (benchScan earth) ≡ shelfBytes
+  unfolding benchScan
+  shelves = refl
+
   pub bench-channels : nextChannels benchCalibrator (benchScan earth) ≡ replicate channels benchChannel
-  bench-channels = channels-of-kept (benchScan earth) number (bench-kept earth)
+  bench-channels = channels-of-kept (benchScan earth) number shelves (bench-kept earth)
 
   pub bench-gives : Gives (benchScan earth) benchChannel earth
   unfolding benchScan layoutIsRight fieldIsRight
-  bench-gives = record { long = refl; right = refl; number = refl; states = bench-channels; earths = earth-field earth }
+  bench-gives = record { long = refl; right = refl; number = refl; shelves = shelves; states = bench-channels; earths = earth-field earth }
 
   module _ (buffer : List ℕ) (room : productSize ≤ length buffer) where
     pub bench-passes : verdictIn benchCalibrator (record { scan = benchScan earth; buffer = buffer }) ≡ passes

@@ -1,5 +1,5 @@
 -- The rows of document 01's bench scan: N, D and T of its scenes, from what the bench table and the bench scan give; and the rows of scan
--- bias. Closed numbers compute.
+-- bias and of the interpolation. Closed numbers compute.
 use Prim.Native.Nat.{ℕ, _+_, _<_}
 use mathlib.Core.Path.{_≡_, refl, ap, ap₂, _∙_}
 use mathlib.Core.Bool.{true, false}
@@ -12,10 +12,12 @@ use Rattle.table.specs.declared.Corrections.{Corrections}
 use Rattle.instrument.specs.Instrument.{channels, targetOf, positions}
 use Rattle.acceptance.proofs.Bench as A
 use Rattle.window.specs.declared.Means.{Means}
+use Rattle.nonlinearity.specs.Interpolation.{abovePair, unroundedTnl, tnlOf}
 use Rattle.window.specs.Means.{D}
 use Rattle.scene.specs.Temperature.{N, outside, temperature, biased}
-use Rattle.bench.specs.Bench.{benchD, benchN, benchT, AllOutside, AllAt, Rows, BiasRows}
-use Rattle.bench.proofs.BenchScan.{benchRow, benchMeans, bench-row, bench-means, earth-count}
+use Rattle.promise.specs.Moments.{tnlAt}
+use Rattle.bench.specs.Bench.{benchSettings, benchMoment, benchD, benchN, benchT, AllOutside, AllAt, Rows, BiasRows, InterpolationRows}
+use Rattle.bench.proofs.BenchScan.{benchRow, benchMeans, bench-row, bench-means, bench-tnl, earth-count}
 
 -- N of a count, and T of an N
 abbrev nOf : ℕ → ℤ
@@ -48,8 +50,9 @@ module _ (earth c i : ℕ) (below : c < channels) (inside : i < positions) where
 
   t-is : benchT earth c i ≡ tOf (nOf earth)
   t-is =
-      ap₂ (λ (m : Means) (k : Corrections). temperature (tcOf k) (riseOf m k) (k .tnl) (D m) (benchN earth c i))
+      ap₂ (λ (m : Means) (k : Corrections). temperature (tcOf k) (riseOf m k) (tnlAt benchSettings (benchMoment earth) c) (D m) (benchN earth c i))
       (bench-means earth c below) (bench-row c below)
+      ∙ ap (λ (tnl : ℤ). temperature (pos 11166) (riseOf (benchMeans (targetOf c)) benchRow) tnl (pos 120000) (benchN earth c i)) (bench-tnl earth c below)
       ∙ ap₂ (λ (rise n : ℤ). temperature (pos 11166) rise (pos 400) (pos 120000) n) (rise-of-target (targetOf c)) n-is
 
 all-outside : (earth : ℕ) → outside (nOf earth) (pos 120000) ≡ true → AllOutside earth
@@ -80,3 +83,21 @@ rows = record {
 pub bias-rows : BiasRows
 unfolding biased r floor
 bias-rows = record { no-bias = refl; least-e = refl; greatest-e = refl; half-more = refl; half-less = refl }
+
+pub interpolation-rows : InterpolationRows
+unfolding tnlOf unroundedTnl abovePair r floor
+interpolation-rows = record {
+  least = refl;
+  below-first = refl;
+  at-first = refl;
+  half-below = refl;
+  at-second = refl;
+  half-to-zero = refl;
+  half-above = refl;
+  third-of-the-way = refl;
+  third-of-the-way-unrounded = refl;
+  two-thirds-of-the-way = refl;
+  at-last = refl;
+  above-last = refl;
+  greatest = refl;
+}

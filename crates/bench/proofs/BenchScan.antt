@@ -1,4 +1,4 @@
--- What the bench table says, and what the bench scan gives under it: accepted samples, sums and earth counts.
+-- What the bench table says, and what the bench scan gives under it: accepted samples, sums, TNL and earth counts.
 use Prim.Native.Nat.{ℕ, _+_, _*_, _<_}
 use native.Mathlib.Nat.{mul-comm}
 use native.Mathlib.Omega.{arith}
@@ -22,11 +22,15 @@ use Rattle.instrument.specs.declared.Target.{Target}
 use Rattle.instrument.specs.declared.Target.the-variants.{Kav, Wg}
 use Rattle.table.specs.declared.Corrections.{Corrections}
 use Rattle.table.specs.Settings.{correctionsOf}
-use Rattle.instrument.specs.Instrument.{thermometers, channels, firstOf, sizeOf, targetOf, positions}
-use Rattle.table.specs.Ranges.{leastsInside, thermometerLimitsInside, channelInside, sumsInside, valuesInside}
+use Rattle.instrument.specs.Instrument.{thermometers, channels, firstOf, sizeOf, targetOf, positions, shelfOf}
+use Rattle.instrument.specs.declared.Shelf.{Shelf}
+use Rattle.instrument.specs.declared.Shelf.the-variants.{KkaShelf, VShelf, WShelf, GShelf}
+use Rattle.integers.specs.Rounding.{floor, r}
+use Rattle.nonlinearity.specs.Interpolation.{abovePair, unroundedTnl, tnlOf}
+use Rattle.table.specs.Ranges.{leastsInside, thermometerLimitsInside, channelInside, pairInside, sumsInside, valuesInside}
 use Rattle.table.specs.Opening.{opening, AcceptedTable}
 use Rattle.acceptance.specs.declared.Scan.{Scan}
-use Rattle.record.specs.Record.{instrument, sideValue, channelPart, earthCounts, earthPart, earthSize}
+use Rattle.record.specs.Record.{instrument, sideValue, channelPart, earthCounts, earthPart, earthSize, shelfTemperatures, shelfTemperature}
 use Rattle.acceptance.specs.Accepted.{readingAt, kelvin, inLimits, kelvins, passedLimits, acceptedThermometers, acceptedCounts, AcceptedSamples, acceptedSamples}
 use Rattle.acceptance.specs.Kept.{keptScan}
 use Rattle.samples.specs.Good.{Sample, differs, good, chosenTo, goodSamples, atLeast}
@@ -37,7 +41,7 @@ use Rattle.window.specs.Ages.{noScan}
 use Rattle.window.specs.Sums.{weightSum, valueSum, thermometerWeights, thermometerSum, meansFrom, meansOf}
 use Rattle.lists.proofs.Stands.{cell-stands}
 use Rattle.fields.proofs.FieldBytes.{u16-that-stands}
-use Rattle.promise.specs.Moments.{meansAt}
+use Rattle.promise.specs.Moments.{meansAt, tnlAt}
 use Rattle.calibrator.specs.Feeding.{keptBy}
 use Rattle.bench.specs.Bench.{benchTable, instrumentBytes, perChannel, benchScan, benchSettings, benchMoment}
 use Rattle.promise.proofs.RollLaws.{scanOfAge}
@@ -46,16 +50,21 @@ use Rattle.promise.proofs.SampleLaws.{means-at-is}
 -- ---- the table
 
 pub bench-table : AcceptedTable benchTable
-unfolding opening benchTable layoutIsRight fieldIsRight valuesInside leastsInside thermometerLimitsInside channelInside sumsInside every sum
+unfolding opening benchTable layoutIsRight fieldIsRight valuesInside leastsInside thermometerLimitsInside channelInside pairInside sumsInside every sum
 bench-table = record { accepted = refl }
 
 -- what it says of each channel
 abbrev pub benchRow : Corrections
-benchRow = record { b = pos 0; rj = 0; sl = 0; tnl = pos 400 }
+benchRow = record { b = pos 0; rj = 0; sl = 0; tnl = pos 0 }
 
 pub bench-row : (c : ℕ) → c < channels → correctionsOf (benchSettings .channel c) ≡ benchRow
 unfolding benchTable tabulate
 bench-row = each-of-same (λ c. correctionsOf (benchSettings .channel c)) (λ c. benchRow) channels refl
+
+-- at shelf temperature 0
+tnl-at-zero : (c : ℕ) → c < channels → tnlOf (benchSettings .channel c .pair) (pos 0) ≡ pos 400
+unfolding benchTable tabulate tnlOf unroundedTnl abovePair r floor
+tnl-at-zero = each-of-same (λ c. tnlOf (benchSettings .channel c .pair) (pos 0)) (λ c. pos 400) channels refl
 
 -- ---- a scan with the instrument counts of the bench scan
 
@@ -148,6 +157,18 @@ module _ (earth : ℕ) where
   bench-means c below =
       means-at-is benchSettings (benchMoment earth) c below ∙
       ap (λ (kept : Scan). meansOf benchSettings (λ k. cond (eqb (7 + k) 7) kept noScan) c) bench-kept ∙ means-of-kept c below
+
+  -- ---- the shelf temperatures
+
+  bench-shelf : (shelf : Shelf) → shelfTemperature (shelfTemperatures (benchScan earth)) shelf ≡ pos 0
+  unfolding benchScan
+  bench-shelf KkaShelf = refl
+  bench-shelf VShelf = refl
+  bench-shelf WShelf = refl
+  bench-shelf GShelf = refl
+
+  pub bench-tnl : (c : ℕ) → c < channels → tnlAt benchSettings (benchMoment earth) c ≡ pos 400
+  bench-tnl c below = ap (tnlOf (benchSettings .channel c .pair)) (bench-shelf (shelfOf c)) ∙ tnl-at-zero c below
 
   -- ---- the earth counts
 

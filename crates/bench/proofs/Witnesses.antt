@@ -44,14 +44,14 @@ use Rattle.calibrator.specs.Refusals.{verdict, Reply, delivered, refused}
 use Rattle.calibrator.specs.Feeding.{Feed, freshOf, verdictIn, stepBy, step}
 use Rattle.promise.specs.Roll.{verdictAt}
 use Rattle.promise.specs.Restart.{rolledBy}
-use Rattle.promise.specs.Moments.{meansAt, wordAt, unitsAt, isDelivered}
+use Rattle.promise.specs.Moments.{meansAt, tnlAt, wordAt, unitsAt, isDelivered}
 use Rattle.promise.specs.Promise.{front, FeedClaim, Alike, Promise}
 use Rattle.promise.specs.SameScenes.{justT, outsideMark, FedChannel, settingsOfFed, momentOfFed, fedFlag, fedNumbers, fedScene}
 use Rattle.product.specs.Product.{productSize}
-use Rattle.bench.specs.Bench.{benchTable, perChannel, benchScan, benchCalibrator, benchSettings, benchMoment, benchChannel, benchT}
+use Rattle.bench.specs.Bench.{benchTable, perChannel, shelfBytes, benchScan, benchCalibrator, benchSettings, benchMoment, benchChannel, benchT}
 use Rattle.bench.specs.Witnesses.{rejectedScan, flaggedScan, zeros, rejectedList, oneOfEach, replies}
 use Rattle.calibrator.proofs.Verdicts.{verdict-length-wrong, verdict-field-wrong, verdict-number-not-above, verdict-buffer-short}
-use Rattle.bench.proofs.BenchScan.{bench-table, bench-row, samplesAt, samplesWith, samples-are, benchMeans, bench-means}
+use Rattle.bench.proofs.BenchScan.{bench-table, bench-row, samplesAt, samplesWith, samples-are, benchMeans, bench-means, bench-tnl}
 use Rattle.bench.proofs.FirstFeed.{states-by-kept, Gives, first-verdict, first-word, first-reply}
 use Rattle.bench.proofs.BenchFeed.{channels-of-kept, scene-delivered, bench-gives, bench-passes, bench-reply}
 use Rattle.bench.proofs.BenchRows.{tcOf, riseOf, rise-of-target, rows}
@@ -85,12 +85,13 @@ unfolding benchTable rejectedScan tabulate acceptedCounts fourCounts withinLimit
 second-samples = samples-are (rejectedScan 20200) rejectedSides refl refl
 
 rejected-gives : (fourth : ℕ) → acceptedSamples benchSettings (rejectedScan fourth) ≡ samplesWith rejectedSides → Gives (rejectedScan fourth) benchChannel 15000
-unfolding rejectedScan layoutIsRight fieldIsRight keptScan tabulate perChannel
+unfolding rejectedScan layoutIsRight fieldIsRight keptScan tabulate perChannel shelfBytes
 rejected-gives fourth samples = record {
   long = refl;
   right = refl;
   number = refl;
-  states = channels-of-kept (rejectedScan fourth) refl (ap keptScan samples);
+  shelves = refl;
+  states = channels-of-kept (rejectedScan fourth) refl refl (ap keptScan samples);
   earths = refl;
 }
 
@@ -146,7 +147,7 @@ module _ (buffer other : List ℕ) (room : productSize ≤ length buffer) (other
       (alike-by benchSettings [] [] firstFeed secondFeed [] []
       (alike-accepted-by benchSettings [] [] firstFeed secondFeed (first-verdict first-gives buffer room) (first-verdict second-gives other other-room)
       (same-scan-by benchSettings (rejectedScan 20100) (rejectedScan 20200)
-      (first-gives .number ∙ sym (second-gives .number)) (first-gives .earths ∙ sym (second-gives .earths)) (first-samples ∙ sym second-samples)))
+      (first-gives .number ∙ sym (second-gives .number)) (first-gives .earths ∙ sym (second-gives .earths)) (first-gives .shelves ∙ sym (second-gives .shelves)) (first-samples ∙ sym second-samples)))
       (none-alike benchSettings _ _))
 
   -- so that by demand 3 the accepted feeds leave the same product
@@ -231,12 +232,13 @@ unfolding benchTable flaggedScan tabulate acceptedCounts fourCounts withinLimits
 flagged-samples = samples-are flaggedScan noCounts refl refl
 
 flagged-gives : Gives flaggedScan flaggedChannel 15000
-unfolding benchTable flaggedScan layoutIsRight fieldIsRight keptScan tabulate windowOf windowAfter shifted noScan cells stateOf flagOf meansFrom weightSum valueSum thermometerWeights thermometerSum sum
+unfolding benchTable flaggedScan shelfBytes layoutIsRight fieldIsRight keptScan tabulate windowOf windowAfter shifted noScan cells stateOf flagOf meansFrom weightSum valueSum thermometerWeights thermometerSum sum
 flagged-gives = record {
   long = refl;
   right = refl;
   number = refl;
-  states = states-by-kept flaggedScan (keptScan (samplesWith noCounts)) refl (ap keptScan flagged-samples);
+  shelves = refl;
+  states = states-by-kept flaggedScan (keptScan (samplesWith noCounts)) refl refl (ap keptScan flagged-samples);
   earths = refl;
 }
 
@@ -305,9 +307,9 @@ module _ (earth : ℕ) (buffer : List ℕ) (room : productSize ≤ length buffer
   fed-numbers-are : (c : ℕ) (below : c < channels) → fedNumbers (fed c below) ≡ benchNumbers
   unfolding rolledBy
   fed-numbers-are c below =
-      ap₂ (λ (m : Means) (k : Corrections). tcOf k ∷ riseOf m k ∷ k .tnl ∷ D m ∷ (pos 12 *ℤ pos (m .wc) *ℤ pos (m .ww)) ∷ (pos (m .ac) *ℤ pos (m .ww)) ∷ [])
+      ap₂ (λ (m : Means) (k : Corrections). tcOf k ∷ riseOf m k ∷ tnlAt benchSettings (benchMoment earth) c ∷ D m ∷ (pos 12 *ℤ pos (m .wc) *ℤ pos (m .ww)) ∷ (pos (m .ac) *ℤ pos (m .ww)) ∷ [])
       (bench-means earth c below) (bench-row c below)
-      ∙ ap (λ (rise : ℤ). pos 11166 ∷ rise ∷ pos 400 ∷ pos 120000 ∷ pos 12 ∷ pos 120000 ∷ []) (rise-of-target (targetOf c))
+      ∙ ap₂ (λ (rise tnl : ℤ). pos 11166 ∷ rise ∷ tnl ∷ pos 120000 ∷ pos 12 ∷ pos 120000 ∷ []) (rise-of-target (targetOf c)) (bench-tnl earth c below)
 
   -- though their sums differ
   pub sums-differ : meansAt (settingsOfFed (fed 0 (lit< tt))) (momentOfFed (fed 0 (lit< tt))) 0 ≡ meansAt (settingsOfFed (fed 15 (lit< tt))) (momentOfFed (fed 15 (lit< tt))) 15 → ⊥

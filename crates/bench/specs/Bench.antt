@@ -1,14 +1,17 @@
--- Document 01, "Bench scan", and request W1: the bench table and the bench scan as bytes, the rows H1 to H12, which speak of T, before scan
--- bias, and rows of scan bias.
+-- Document 01, "Bench scan", and requests W1 and W4: the bench table and the bench scan as bytes, the rows H1 to H12, which speak of T, before scan
+-- bias, and rows of scan bias and of the interpolation.
 use Prim.Native.Nat.{ℕ, _-_, _<_}
 use mathlib.Core.Path.{_≡_}
 use mathlib.Core.List.{List, [], _∷_, _++_}
 use mathlib.Core.Bool.{true, false}
 use lib.IntN.{ℤ, pos, negℤ}
-use lib.ListN.{replicate}
+use lib.ListN.{replicate, getD}
+use Rattle.integers.specs.Fractions.{_/ᶠ_}
 use Rattle.lists.specs.Build.{cells}
 use Rattle.thermometer.specs.Rule.{F, answer}
 use Rattle.table.specs.declared.Limits.{Limits}
+use Rattle.table.specs.declared.ShelfPair.{ShelfPair}
+use Rattle.nonlinearity.specs.Interpolation.{unroundedTnl, tnlOf}
 use Rattle.table.specs.Settings.{Settings, tableLayout, settingsOf}
 use Rattle.instrument.specs.Instrument.{thermometers, channels, positions}
 use Rattle.table.specs.Opening.{ages}
@@ -16,7 +19,7 @@ use Rattle.bias.specs.Bias.{zeroBias}
 use Rattle.samples.specs.Good.{good, atLeast}
 use Rattle.acceptance.specs.Counts.{Sides, withinLimits, goodCounts, acceptedSides, scanValue}
 use Rattle.scene.specs.declared.Channel.{Channel}
-use Rattle.record.specs.Record.{recordLayout}
+use Rattle.record.specs.Record.{recordLayout, shelvesSize}
 use Rattle.scene.specs.Temperature.{outside, biased}
 use Rattle.fields.specs.Numbers.{u16Bytes, u32Bytes}
 use Rattle.fields.specs.Fields.{fieldAt, fieldBytes}
@@ -54,16 +57,26 @@ thermometerBytes = (1 ∷ []) ++ u32Bytes 2000000 ++ u32Bytes 3850000 ++ u32Byte
 abbrev pub limitsBytes : List ℕ
 limitsBytes = u16Bytes 0 ++ u16Bytes 65535 ++ u16Bytes 50
 
--- warm, cold; b, rj, sl, TNL
+-- warm, cold; b, rj, sl and the TNL of 0x12, all 0
 unfoldable pub channelBytes : List ℕ
-channelBytes = limitsBytes ++ limitsBytes ++ u16Bytes 0 ++ u16Bytes 0 ++ u16Bytes 0 ++ u16Bytes 400
+channelBytes = limitsBytes ++ limitsBytes ++ u16Bytes 0 ++ u16Bytes 0 ++ u16Bytes 0 ++ u16Bytes 0
+
+-- a pair, its shelf temperature in two's complement: TNL 400
+abbrev pub pairBytes : ℕ → List ℕ
+pairBytes shelf = u32Bytes shelf ++ u16Bytes 400
+
+-- the range of shelf temperatures, from end to end in four equal parts
+unfoldable pub pairsBytes : List ℕ
+pairsBytes =
+    pairBytes (0x1_0000_0000 - 245760) ++ pairBytes (0x1_0000_0000 - 122880) ++ pairBytes 0 ++ pairBytes 122880 ++ pairBytes 245760
 
 unfoldable pub benchTable : List ℕ
-unfolding settingsBytes thermometerBytes channelBytes cells
+unfolding settingsBytes thermometerBytes channelBytes pairsBytes cells
 benchTable =
     fieldBytes (fieldAt (tableLayout ages) 0) settingsBytes
     ++ (fieldBytes (fieldAt (tableLayout ages) 1) (cells (λ i. thermometerBytes) thermometers)
-    ++ fieldBytes (fieldAt (tableLayout ages) 2) (cells (λ c. channelBytes) channels))
+    ++ (fieldBytes (fieldAt (tableLayout ages) 2) (cells (λ c. channelBytes) channels)
+    ++ fieldBytes (fieldAt (tableLayout ages) 3) (cells (λ c. pairsBytes) channels)))
 
 -- ---- the bench scan
 
@@ -77,15 +90,20 @@ unfoldable pub instrumentBytes : List ℕ
 unfolding cells
 instrumentBytes = u16Bytes 20000 ++ u16Bytes 0 ++ cells (λ i. u16Bytes 20000) thermometers
 
--- scan 7 with warm, cold and earth counts; document 01's earth count is 15,000
+-- the shelves are 0
+unfoldable pub shelfBytes : List ℕ
+shelfBytes = replicate shelvesSize 0
+
+-- scan 7 with warm, cold and earth counts and shelf temperatures; document 01's earth count is 15,000
 unfoldable pub benchScan : ℕ → List ℕ
-unfolding instrumentBytes perChannel
+unfolding instrumentBytes perChannel shelfBytes
 benchScan earth =
     fieldBytes (fieldAt recordLayout 0) (u32Bytes 7)
     ++ (fieldBytes (fieldAt recordLayout 1) instrumentBytes
     ++ (fieldBytes (fieldAt recordLayout 2) (perChannel 4 20000)
     ++ (fieldBytes (fieldAt recordLayout 3) (perChannel 4 10000)
-    ++ fieldBytes (fieldAt recordLayout 4) (perChannel positions earth))))
+    ++ (fieldBytes (fieldAt recordLayout 4) (perChannel positions earth)
+    ++ fieldBytes (fieldAt recordLayout 5) shelfBytes))))
 
 -- the calibrator that is fresh under the bench table and a bias file of zeros
 abbrev pub benchCalibrator : Calibrator
@@ -165,3 +183,25 @@ pub record BiasRows : Type 0 where
   pub greatest-e : biased (negℤ (pos 4096)) (pos 32767) (pos 565394) ≡ pos 843986
   pub half-more : biased (negℤ (pos 1)) (pos 1) (pos 32768) ≡ pos 32768
   pub half-less : biased (pos 1) (negℤ (pos 1)) (pos 32768) ≡ pos 32769
+
+-- Request W4: pairs at -4, -2, 0, 2 and 5
+abbrev pub rowsPair : ℕ → ShelfPair
+rowsPair j =
+    getD (record { shelf = negℤ (pos 4); tnl = negℤ (pos 4) } ∷ record { shelf = negℤ (pos 2); tnl = negℤ (pos 1) } ∷ record { shelf = pos 0; tnl = pos 0 } ∷ record { shelf = pos 2; tnl = pos 3 } ∷ record { shelf = pos 5; tnl = pos 8192 } ∷ [])
+    j (record { shelf = pos 0; tnl = pos 0 })
+
+-- TNL by these pairs; three of the rows round a half, and two are at the ends of an i32
+pub record InterpolationRows : Type 0 where
+  pub least : tnlOf rowsPair (negℤ (pos 2147483648)) ≡ negℤ (pos 4)
+  pub below-first : tnlOf rowsPair (negℤ (pos 5)) ≡ negℤ (pos 4)
+  pub at-first : tnlOf rowsPair (negℤ (pos 4)) ≡ negℤ (pos 4)
+  pub half-below : tnlOf rowsPair (negℤ (pos 3)) ≡ negℤ (pos 2)
+  pub at-second : tnlOf rowsPair (negℤ (pos 2)) ≡ negℤ (pos 1)
+  pub half-to-zero : tnlOf rowsPair (negℤ (pos 1)) ≡ pos 0
+  pub half-above : tnlOf rowsPair (pos 1) ≡ pos 2
+  pub third-of-the-way : tnlOf rowsPair (pos 3) ≡ pos 2733
+  pub third-of-the-way-unrounded : unroundedTnl rowsPair (pos 3) ≡ pos 8198 /ᶠ pos 3
+  pub two-thirds-of-the-way : tnlOf rowsPair (pos 4) ≡ pos 5462
+  pub at-last : tnlOf rowsPair (pos 5) ≡ pos 8192
+  pub above-last : tnlOf rowsPair (pos 6) ≡ pos 8192
+  pub greatest : tnlOf rowsPair (pos 2147483647) ≡ pos 8192

@@ -7,6 +7,8 @@ use Rattle.instrument.specs.declared.Side.{Side}
 use Rattle.instrument.specs.declared.Side.the-variants.{Warm, Cold}
 use Rattle.instrument.specs.declared.Target.{Target}
 use Rattle.instrument.specs.declared.Target.the-variants.{Kav, Wg}
+use Rattle.instrument.specs.declared.Shelf.{Shelf}
+use Rattle.instrument.specs.declared.Shelf.the-variants.{KkaShelf, VShelf, WShelf, GShelf}
 
 abbrev pub thermometers : ℕ
 thermometers = 15
@@ -34,7 +36,14 @@ kavChannels = 15
 abbrev pub targetOf : ℕ → Target
 targetOf c = cond (ltb c kavChannels) Kav Wg
 
--- where both have a value, warm stands before cold, and KAV before WG
+-- Request W4: the receiver shelves; channels 1 and 2 use KKA, 3 to 15 V, 16 W, 17 to 22 G
+abbrev pub shelves : ℕ
+shelves = 4
+
+abbrev pub shelfOf : ℕ → Shelf
+shelfOf c = cond (ltb c 2) KkaShelf (cond (ltb c 15) VShelf (cond (ltb c 16) WShelf GShelf))
+
+-- where both have a value, warm stands before cold, and KAV before WG; the shelves stand in the order KKA, V, W, G
 abbrev pub sidePlace : Side → ℕ
 sidePlace Warm = 0
 sidePlace Cold = 1
@@ -42,3 +51,9 @@ sidePlace Cold = 1
 abbrev pub targetPlace : Target → ℕ
 targetPlace Kav = 0
 targetPlace Wg = 1
+
+abbrev pub shelfPlace : Shelf → ℕ
+shelfPlace KkaShelf = 0
+shelfPlace VShelf = 1
+shelfPlace WShelf = 2
+shelfPlace GShelf = 3

@@ -1,6 +1,7 @@
-// What the instrument has: channels, positions and thermometers, the two sides of a channel's calibration counts, the two warm targets.
+// What the instrument has: channels, positions and thermometers, the two sides of a channel's calibration counts, the two warm targets, the
+// four receiver shelves.
 ghost use mathlib.Core.Path.{_≡_};
-ghost use Rattle.instrument.specs.Instrument.{firstOf, sizeOf, targetOf, sidePlace, targetPlace};
+ghost use Rattle.instrument.specs.Instrument.{firstOf, sizeOf, targetOf, shelfOf, sidePlace, targetPlace, shelfPlace};
 
 pub const CHANNELS: usize = 22;
 
@@ -26,6 +27,14 @@ pub enum Side {
 pub enum Target {
     Kav,
     Wg,
+}
+
+// The receiver shelves.
+pub enum Shelf {
+    KkaShelf,
+    VShelf,
+    WShelf,
+    GShelf,
 }
 
 // A target's first thermometer, how many it has, and the target that serves channel c.
@@ -56,7 +65,30 @@ pub fn target_of(c: usize) -> Target
     Target::Wg
 }
 
-// Where both have a value, warm stands before cold, and KAV before WG.
+// The first channel that is on the V shelf, on W and on G; those before are on KKA.
+const FIRST_V: usize = 2;
+
+const FIRST_W: usize = 15;
+
+const FIRST_G: usize = 16;
+
+// The shelf of channel c.
+pub fn shelf_of(c: usize) -> Shelf
+    ensures { λ s. ⌜ s ≡ shelfOf c ⌝ }
+{
+    if c < FIRST_V {
+        return Shelf::KkaShelf;
+    }
+    if c < FIRST_W {
+        return Shelf::VShelf;
+    }
+    if c < FIRST_G {
+        return Shelf::WShelf;
+    }
+    Shelf::GShelf
+}
+
+// Where both have a value, warm stands before cold, and KAV before WG; the shelves stand in the order KKA, V, W, G.
 pub fn side_place(side: Side) -> usize
     ensures { λ n. ⌜ n ≡ sidePlace side ⌝ }
 {
@@ -72,5 +104,16 @@ pub fn target_place(target: Target) -> usize
     match target {
         Target::Kav => 0,
         Target::Wg => 1,
+    }
+}
+
+pub fn shelf_place(shelf: Shelf) -> usize
+    ensures { λ n. ⌜ n ≡ shelfPlace shelf ⌝ }
+{
+    match shelf {
+        Shelf::KkaShelf => 0,
+        Shelf::VShelf => 1,
+        Shelf::WShelf => 2,
+        Shelf::GShelf => 3,
     }
 }

@@ -8,7 +8,7 @@ use Rattle.integers.specs.Rounding.{floor, r}
 use Rattle.integers.specs.Bounds.{Bounded, WithinHalf}
 use Rattle.integers.proofs.Ring.{_:+_, _:-_, _:*_, opp, #, v0, v1, v2, v3}
 use Rattle.integers.proofs.Certificate.{_:≤_, _:<_, hyp, nat, _⊕_, _⊗_, le-by, lt-by}
-use Rattle.integers.proofs.Order.{at-most-antisym}
+use Rattle.integers.proofs.Order.{at-most-equal, at-most-antisym}
 use Rattle.integers.proofs.Floor.{floor-low, floor-high, floor-unique}
 
 twice-above : {b : ℤ} → pos 0 <ℤ b → pos 0 <ℤ (pos 2 *ℤ b)
@@ -71,6 +71,10 @@ module _ {a b q : ℤ} (p : pos 0 <ℤ b) (h : WithinHalf a b q) where
   within-half-nearest m k l = at-most-antisym
       (le-by (a ∷ b ∷ m ∷ q ∷ []) ((# 0 :< v1) ∷ (# 2 :* v1 :* v2 :< # 2 :* v0 :+ v1) ∷ (opp v1 :≤ # 2 :* (v1 :* v3 :- v0)) ∷ []) v2 v3 (nat 2 ⊗ hyp 0 ⊕ hyp 2 ⊕ hyp 3 ⊕ nat 2 ⊗ hyp 0 ⊗ hyp 1) tt p k (h .twice .low))
       (le-by (a ∷ b ∷ m ∷ q ∷ []) ((# 0 :< v1) ∷ (# 2 :* v0 :< # 2 :* v1 :* v2 :+ v1) ∷ (# 2 :* (v1 :* v3 :- v0) :≤ v1) ∷ []) v3 v2 (nat 2 ⊗ hyp 0 ⊕ hyp 2 ⊕ hyp 3 ⊕ nat 2 ⊗ hyp 0 ⊗ hyp 1) tt p l (h .twice .high))
+
+-- a multiple of b loses nothing
+pub r-of-multiple : (a : ℤ) {b : ℤ} (m : ℤ) → pos 0 <ℤ b → a ≡ m *ℤ b → r a b ≡ m
+r-of-multiple a m p is = at-most-antisym (within-half-at-most p (r-within-half a p) m (at-most-equal is)) (within-half-at-least p (r-within-half a p) m (at-most-equal (sym is)))
 
 -- r(a, b) stays between whole numbers that a / b is between
 pub r-bounded : (a : ℤ) {b m : ℤ} → pos 0 <ℤ b → Bounded a (m *ℤ b) → Bounded (r a b) m

@@ -17,6 +17,9 @@ at-most-equal {a} e = subst (λ z. a ≤ℤ z) e (≤ℤ-refl a)
 pub at-most-trans : {a b c : ℤ} → a ≤ℤ b → b ≤ℤ c → a ≤ℤ c
 at-most-trans {a} {b} {c} h k = omega (arith, order)
 
+pub below-trans : {a b c : ℤ} → a <ℤ b → b <ℤ c → a <ℤ c
+below-trans {a} {b} {c} h k = omega (arith, order)
+
 pub at-most-antisym : {a b : ℤ} → a ≤ℤ b → b ≤ℤ a → a ≡ b
 at-most-antisym {a} {b} h k = parts-equal a b (omega (arith, order))
 

@@ -1,5 +1,5 @@
--- Two lists that are alike give the same products: their rolls keep the same scans by age, and a product is made of these, the number
--- and the earth counts alone, under one table and one bias file.
+-- Two lists that are alike give the same products: their rolls keep the same scans by age, and a product is made of these, the number,
+-- the earth counts and the shelf temperatures alone, under one table and one bias file.
 use Prim.Native.Nat.{ℕ, _+_}
 use native.Mathlib.Omega.{arith}
 use mathlib.Core.Path.{_≡_, refl, sym, ap, ap₂, fun-ext, _∙_}
@@ -11,11 +11,12 @@ use lib.Seq.{take-at}
 use Rattle.lists.specs.Tests.{Verdict, passes, fails}
 use Rattle.lists.proofs.Tabulate.{tabulate-same}
 use Rattle.table.specs.Settings.{Settings}
-use Rattle.instrument.specs.Instrument.{channels}
+use Rattle.instrument.specs.Instrument.{channels, shelfOf}
 use Rattle.acceptance.specs.declared.Scan.{Scan}
-use Rattle.record.specs.Record.{scanNumber, earthCounts}
+use Rattle.record.specs.Record.{scanNumber, earthCounts, shelfTemperatures, shelfTemperature}
 use Rattle.acceptance.specs.Kept.{keptScan}
 use Rattle.scene.specs.declared.Channel.{Channel}
+use Rattle.window.specs.declared.Means.{Means}
 use Rattle.window.specs.Sums.{meansOf}
 use Rattle.window.specs.Means.{stateOf}
 use Rattle.product.specs.Scenes.{Deliver}
@@ -39,10 +40,11 @@ module _ (s : Settings) where
     pub last : lastNumber roll ≡ lastNumber rolled
     pub scans : scanOfAge s roll ≡ scanOfAge s rolled
 
-  same-channels : (scan other : List ℕ) (roll rolled : Roll) → SameRolls (scan ∷ roll) (other ∷ rolled) → channelsAt s (fedMoment roll scan) ≡ channelsAt s (fedMoment rolled other)
-  same-channels scan other roll rolled h =
+  same-channels : (scan other : List ℕ) (roll rolled : Roll) → shelfTemperatures scan ≡ shelfTemperatures other → SameRolls (scan ∷ roll) (other ∷ rolled)
+      → channelsAt s (fedMoment roll scan) ≡ channelsAt s (fedMoment rolled other)
+  same-channels scan other roll rolled shelves h =
       tabulate-same _ _ channels (λ c inside.
-      ap (stateOf s c)
+      ap₂ (λ (value : List ℕ) (m : Means). stateOf s c (shelfTemperature value (shelfOf c)) m) shelves
       (means-at-is s (fedMoment roll scan) c inside
       ∙ ap₂ (λ (scans : ℕ → ℕ → Scan) (number : ℕ). meansOf s (λ k. scans number k) c) (h .scans) (h .last)
       ∙ sym (means-at-is s (fedMoment rolled other) c inside)))
@@ -70,7 +72,7 @@ module _ (s : Settings) (deliver : ℕ → Deliver) where
   accepted-same : (roll rolled : Roll) (feed other : Feed) → SameScan s (feed .scan) (other .scan) → SameRolls s roll rolled → SameStep passes roll rolled feed other
   accepted-same roll rolled feed other e h =
       let both = joined-same s (feed .scan) (other .scan) roll rolled e h in
-      let all = same-channels s (feed .scan) (other .scan) roll rolled both in
+      let all = same-channels s (feed .scan) (other .scan) roll rolled (e .shelves) both in
       record {
         outcomes = record {
           reply = ap₂ (λ (channels : List Channel) (earth : List ℕ). delivered (deliveredCount deliver channels earth)) all (e .earth);

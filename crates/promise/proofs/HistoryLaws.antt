@@ -12,10 +12,10 @@ use Rattle.lists.proofs.Tabulate.{length-tabulate, tabulate-same}
 use Rattle.lists.proofs.Cells.{cells-same}
 use Rattle.table.specs.declared.Table.{Table}
 use Rattle.table.specs.Settings.{Settings, settingsOf}
-use Rattle.instrument.specs.Instrument.{channels}
+use Rattle.instrument.specs.Instrument.{channels, shelfOf}
 use Rattle.table.specs.Opening.{ages}
 use Rattle.acceptance.specs.declared.Scan.{Scan}
-use Rattle.record.specs.Record.{scanNumber, earthCounts}
+use Rattle.record.specs.Record.{scanNumber, earthCounts, shelfTemperatures, shelfTemperature}
 use Rattle.acceptance.specs.Kept.{keptScan}
 use Rattle.window.specs.declared.Window.{Window}
 use Rattle.scene.specs.declared.Channel.{Channel}
@@ -75,10 +75,10 @@ module _ (s : Settings) where
       ∙ window-same true (scanNumber scan) _ _ (λ k inside. aged-roll s scan roll numbers above k inside)
 
   -- its channels
-  channels-joined : s .ages ≤ ages → (scan : List ℕ) (roll : Roll) → channelsIn s (windowOf true (scanNumber scan) (scansOf s (scan ∷ roll))) ≡ channelsAt s (fedMoment roll scan)
+  channels-joined : s .ages ≤ ages → (scan : List ℕ) (roll : Roll) → channelsIn s (windowOf true (scanNumber scan) (scansOf s (scan ∷ roll))) (shelfTemperatures scan) ≡ channelsAt s (fedMoment roll scan)
   channels-joined few scan roll =
       tabulate-same _ _ channels (λ c inside.
-      ap (stateOf s c)
+      ap (stateOf s c (shelfTemperature (shelfTemperatures scan) (shelfOf c)))
       (means-of-scans s few true (scanNumber scan) (scansOf s (scan ∷ roll)) (λ k. by-age-shape (scan ∷ roll) (scanNumber scan) k) c inside
       ∙ sym (means-at-is s (fedMoment roll scan) c inside)))
 
@@ -104,7 +104,7 @@ module _ (table : Table) (bias : Bias) where
     next-window e = window-joined tableSettings (feed .scan) roll numbers (passes-facts (begun roll) (lastNumber roll) (feed .scan) (length (feed .buffer)) e .above)
 
     next-channels : verdictAt roll feed ≡ passes → nextChannels before (feed .scan) ≡ channelsAt tableSettings (fedMoment roll (feed .scan))
-    next-channels e = ap (channelsIn tableSettings) (next-window e) ∙ channels-joined tableSettings (omega arith) (feed .scan) roll
+    next-channels e = ap (λ (w : Window). channelsIn tableSettings w (shelfTemperatures (feed .scan))) (next-window e) ∙ channels-joined tableSettings (omega arith) (feed .scan) roll
 
     calibrator-by : (v : Verdict) → verdictAt roll feed ≡ v → stepBy v before feed .calibrator ≡ calibratorOf table bias (joinedBy v roll feed)
     unfolding stepBy

@@ -29,7 +29,7 @@ use Rattle.calibrator.specs.declared.Calibrator.{Calibrator}
 use Rattle.calibrator.specs.Refusals.{delivered}
 use Rattle.calibrator.specs.Feeding.{Feed, keptBy, freshOf, step, calibratorAfter, outcomeAfter}
 use Rattle.promise.specs.Roll.{Roll, begun, lastNumber, verdictAt, joinedBy, joined}
-use Rattle.promise.specs.Moments.{channelsAt}
+use Rattle.promise.specs.Moments.{shelfAt, channelsAt}
 use Rattle.promise.specs.Restart.{rolledBy, recent, feedsOf, Restart}
 use Rattle.calibrator.proofs.Verdicts.{verdict-passes, passes-facts}
 use Rattle.promise.proofs.RollLaws.{scanOfAge, NumbersTo}
@@ -138,7 +138,7 @@ module _ (s : Settings) where
   channels-recent few scan roll =
       let older = recent (scanNumber scan) roll in
       tabulate-same _ _ channels (λ c inside.
-      ap (stateOf s c)
+      ap (stateOf s c (shelfAt s (fedMoment roll scan) c))
       (means-at-is s (fedMoment roll scan) c inside
       ∙ means-same few _ _ (λ k. by-age-shape s (scan ∷ roll) (scanNumber scan) k) (λ k. by-age-shape s (scan ∷ older) (scanNumber scan) k) (λ k below. joined-recent scan roll k below) c inside
       ∙ sym (means-at-is s (fedMoment older scan) c inside)))

@@ -26,7 +26,7 @@ use Rattle.product.specs.Product.{productSize}
 use Rattle.calibrator.specs.Feeding.{Outcome}
 use Rattle.promise.specs.Restart.{rolledBy}
 use Rattle.promise.specs.Outcomes.{outcomeBy}
-use Rattle.promise.specs.Moments.{Moment, meansAt, dAt, nAt, tAt, countAt, productAt}
+use Rattle.promise.specs.Moments.{Moment, meansAt, shelfAt, tnlAt, dAt, nAt, tAt, countAt, productAt}
 use Rattle.promise.specs.SameScenes.{TOrMark, justT, flaggedMark, outsideMark, guardMark, flagAt, sceneBeforeBias, sixNumbers, settingsOfFed, momentOfFed, fedSceneAt, SameScenes, Shows, ScenesShown}
 use Rattle.promise.proofs.SceneClaims.{scene, flag-zero-scene, flagged-scene, n-is-numerator, count, word-is, word-delivered, scene-claim}
 use Rattle.promise.proofs.RestartLaws.{left-by}
@@ -46,7 +46,7 @@ scene-by-numbers s m c zero-flag count =
     let channel = s .channel c in
     let sums = meansAt s m c in
     rw (eq-eqb (flagAt s m c) 0 zero-flag)
-    (ap (byTests (Tc channel) (Tw sums channel -ℤ Tc channel) (channel .tnl) (dAt s m c)) (N-by-products (pos (sums .ww)) (pos (sums .wc)) (pos (sums .ac)) count))
+    (ap (byTests (Tc channel) (Tw sums channel -ℤ Tc channel) (tnlAt s m c) (dAt s m c)) (N-by-products (pos (sums .ww)) (pos (sums .wc)) (pos (sums .ac)) count))
 
 pub same-scenes : SameScenes
 same-scenes one other zero-flag other-zero agree n small =
@@ -70,13 +70,13 @@ module _ (s : Settings) (bias : List ℕ) (m : Moment) (c i : ℕ) (range : Sett
     scene-by-tests : eqb (flagAt s m c) 0 ≡ true → scene s m c i deliver ≡ cond away Outside (cond fails Guard kelvins)
     unfolding sceneOf constantsOf
     scene-by-tests e =
-        flag-zero-scene s c (meansAt s m c) deliver (count s m c i) (eqb-true (flagAt s m c) 0 e)
-        ∙ ap (λ n. let k = constantsOf (meansAt s m c) (s .channel c) in let t = temperature (k .tc) (k .rise) (k .tnl) (k .d) n in cond (outside n (k .d)) Outside (cond (guardFails t) Guard (Kelvin (kelvin (natAbs (deliver t)))))) (sym (n-is-numerator s m c i))
+        flag-zero-scene s c (shelfAt s m c) (meansAt s m c) deliver (count s m c i) (eqb-true (flagAt s m c) 0 e)
+        ∙ ap (λ n. let k = constantsOf (meansAt s m c) (s .channel c) (shelfAt s m c) in let t = temperature (k .tc) (k .rise) (k .tnl) (k .d) n in cond (outside n (k .d)) Outside (cond (guardFails t) Guard (Kelvin (kelvin (natAbs (deliver t)))))) (sym (n-is-numerator s m c i))
         ∙ ap₂ (λ a b. cond a Outside (cond b Guard kelvins)) f g
 
   shows-by : (unflagged away fails : Bool) → eqb (flagAt s m c) 0 ≡ unflagged → outside (nAt s m c i) (dAt s m c) ≡ away → guardFails (tAt s m c i) ≡ fails
       → Shows product bias c i (cond unflagged (cond away outsideMark (cond fails guardMark (justT (tAt s m c i)))) flaggedMark)
-  shows-by false away fails e f g = word-is s bias m c i range file below inside rest ∙ ap bits (flagged-scene s c (meansAt s m c) deliver (count s m c i) e)
+  shows-by false away fails e f g = word-is s bias m c i range file below inside rest ∙ ap bits (flagged-scene s c (shelfAt s m c) (meansAt s m c) deliver (count s m c i) e)
   shows-by true true fails e f g = word-is s bias m c i range file below inside rest ∙ ap bits (scene-by-tests true fails f g e)
   shows-by true false true e f g = word-is s bias m c i range file below inside rest ∙ ap bits (scene-by-tests false true f g e)
   shows-by true false false e f g =

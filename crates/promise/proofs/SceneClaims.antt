@@ -1,6 +1,6 @@
--- The scenes of an accepted feed: one is delivered exactly when the rules say, and is then exactly what scan bias makes of T, at most 7/2 units
--- from equation 30 over E, which is what equations 25 to 29 give. Read from the product's bytes: the word of a scene is the bits of the scene
--- that the channel's flag and constants give.
+-- The scenes of an accepted feed: one is delivered exactly when the rules say, and is then exactly what scan bias makes of T, at most 71/16
+-- units from equation 30 over E, which is what equations 25 to 29 give; before scan bias T is at most 21/8 units from E. Read from the
+-- product's bytes: the word of a scene is the bits of the scene that the channel's flag and constants give.
 use Prim.Native.Nat.{ℕ, _+_, _*_, _<_, _≤_}
 use native.Mathlib.Omega.{arith}
 use mathlib.Core.Path.{_≡_, refl, sym, ap, subst, subst₂, _∙_}
@@ -9,7 +9,7 @@ use mathlib.Core.Bool.{Bool, true, false, false≢true, cond}
 use mathlib.Core.Logic.{inl}
 use lib.Dec.{eqb}
 use lib.IntN.{ℤ, pos, natAbs, _-ℤ_, _*ℤ_}
-use lib.Signed.{_≤ℤ_, _<ℤ_}
+use lib.Signed.{_≤ℤ_, _<ℤ_, ltZ-yes}
 use lib.ListN.{getD}
 use lib.Ieee.{Float, binary32, ofBits}
 use borrow.Author.Tests.{eqb-true, eq-eqb, ne-eqb}
@@ -26,9 +26,11 @@ use Rattle.lists.proofs.Elements.{zero-of-zeros}
 use Rattle.table.specs.Settings.{Settings}
 use Rattle.instrument.specs.Instrument.{channels, targetOf, positions, thermometers}
 use Rattle.table.specs.ValueRanges.{SettingsRange}
+use Rattle.table.proofs.OpeningLaws.{accepted-ranges}
 use Rattle.record.specs.Record.{scanNumber, earthCounts, earthPart}
 use Rattle.acceptance.specs.Kept.{leastKelvin, KelvinRange}
 use Rattle.acceptance.proofs.Ranges.{kept-scan-kelvins}
+use Rattle.nonlinearity.proofs.InterpolationLaws.{unrounded-above, tnl-within-half, tnl-bounded}
 use Rattle.window.specs.declared.Means.{Means}
 use Rattle.scene.specs.declared.Channel.{Channel}
 use Rattle.window.specs.Ages.{noScan}
@@ -59,7 +61,9 @@ use Rattle.product.proofs.SceneLaws.{InUnitsBy, temperature-in-units, e-bounded
 use Rattle.product.proofs.SummaryLaws.{delivered-count}
 use Rattle.calibrator.specs.Feeding.{keptBy}
 use Rattle.promise.specs.Roll.{Roll}
-use Rattle.promise.specs.Moments.{Moment, currentNumber, meansAt, channelsAt, productAt, ByTheRules, SceneClaim, isDelivered, deliveredIn, wordAt, unitsAt, nAt, tAt, eAt, deliveredAt, biasedEAt, equationsAt}
+use Rattle.promise.specs.SameScenes.{settingsOfFed, momentOfFed}
+use Rattle.promise.specs.BeforeBias.{DistanceBeforeBias}
+use Rattle.promise.specs.Moments.{Moment, currentNumber, meansAt, shelfAt, tnlAt, unroundedTnlAt, channelsAt, productAt, ByTheRules, SceneClaim, isDelivered, deliveredIn, wordAt, unitsAt, nAt, tAt, eAt, deliveredAt, biasedEAt, equationsAt}
 use Rattle.promise.proofs.RollLaws.{scanOfAge}
 use Rattle.promise.proofs.SampleLaws.{scansAt, means-at-is}
 
@@ -107,17 +111,17 @@ mean-at s m c below =
     subst MeanWithin (sym (means-at-is s m c below)) (record { weighted-low = sums .low; weighted-high = sums .high })
 
 -- ---- the scene of a channel with this flag and these constants
-module _ (s : Settings) (c : ℕ) (m : Means) where
-  pub flag-zero-scene : (deliver : ℤ → ℤ) (count : ℕ) → flagOf s (targetOf c) m ≡ 0 → sceneIn deliver (stateOf s c m) count ≡ sceneOf deliver (constantsOf m (s .channel c)) count
+module _ (s : Settings) (c : ℕ) (shelf : ℤ) (m : Means) where
+  pub flag-zero-scene : (deliver : ℤ → ℤ) (count : ℕ) → flagOf s (targetOf c) m ≡ 0 → sceneIn deliver (stateOf s c shelf m) count ≡ sceneOf deliver (constantsOf m (s .channel c) shelf) count
   unfolding sceneIn stateOf
   flag-zero-scene deliver count e = rw e
 
-  pub flagged-scene : (deliver : ℤ → ℤ) (count : ℕ) → eqb (flagOf s (targetOf c) m) 0 ≡ false → sceneIn deliver (stateOf s c m) count ≡ Flagged
+  pub flagged-scene : (deliver : ℤ → ℤ) (count : ℕ) → eqb (flagOf s (targetOf c) m) 0 ≡ false → sceneIn deliver (stateOf s c shelf m) count ≡ Flagged
   unfolding sceneIn stateOf
   flagged-scene deliver count e = rw e
 
   -- what holds of the constants of a channel with flag 0 holds of its state
-  flag-zero-constants : (P : Constants → Type 0) → (flagOf s (targetOf c) m ≡ 0 → P (constantsOf m (s .channel c))) → stateOf s c m .flag ≡ 0 → P (stateOf s c m .constants)
+  flag-zero-constants : (P : Constants → Type 0) → (flagOf s (targetOf c) m ≡ 0 → P (constantsOf m (s .channel c) shelf)) → stateOf s c shelf m .flag ≡ 0 → P (stateOf s c shelf m .constants)
   unfolding stateOf
   flag-zero-constants P holds e = rw (eq-eqb (flagOf s (targetOf c) m) 0 e) (holds e)
 
@@ -126,8 +130,11 @@ module _ (s : Settings) (m : Moment) (c i : ℕ) where
   abbrev means : Means
   means = meansAt s m c
 
+  abbrev shelf : ℤ
+  shelf = shelfAt s m c
+
   abbrev constants : Constants
-  constants = constantsOf means (s .channel c)
+  constants = constantsOf means (s .channel c) shelf
 
   abbrev pub count : ℕ
   count = u16At (earthPart (earthCounts (m .scan)) c) (2 * i)
@@ -138,10 +145,13 @@ module _ (s : Settings) (m : Moment) (c i : ℕ) where
 
   t-is-temperature : tAt s m c i ≡ temperatureOf constants count
   unfolding constantsOf
-  t-is-temperature = ap (λ n. temperature (Tc (s .channel c)) (Tw means (s .channel c) -ℤ Tc (s .channel c)) (s .channel c .tnl) (D means) n) n-is-numerator
+  t-is-temperature = ap (λ n. temperature (Tc (s .channel c)) (Tw means (s .channel c) -ℤ Tc (s .channel c)) (tnlAt s m c) (D means) n) n-is-numerator
 
   rules-unflagged : ByTheRules s m c i → Unflagged s (targetOf c) means
   rules-unflagged h = record { thermometers = h .thermometers; warm = h .warm; cold = h .cold; d = h .warmAboveCold }
+
+  rules-flag-zero : ByTheRules s m c i → flagOf s (targetOf c) means ≡ 0
+  rules-flag-zero h = unflagged-flag-zero s (targetOf c) means (rules-unflagged h)
 
   rules-pass : ByTheRules s m c i → Passes constants count
   unfolding constantsOf
@@ -176,7 +186,7 @@ module _ (s : Settings) (m : Moment) (c i : ℕ) where
         tc-high = within .tc-high;
         rise-low = within .rise-low;
         rise-high = within .rise-high;
-        tnl-bounded = range .channel c below .tnl;
+        tnl-bounded = tnl-bounded (range .channel c below .pair) shelf;
         d-above = flag-zero-unflagged s (targetOf c) means zero-flag .d;
         n-low = passed .not-negative;
         n-high = passed .not-above;
@@ -185,12 +195,12 @@ module _ (s : Settings) (m : Moment) (c i : ℕ) where
   -- ---- the scene of the count, whatever is delivered for T
   module _ (deliver : ℤ → ℤ) where
     abbrev pub scene : Scene
-    scene = sceneIn deliver (stateOf s c means) count
+    scene = sceneIn deliver (stateOf s c shelf means) count
 
     -- by the rules it is what is delivered for T
     rules-scene : ByTheRules s m c i → scene ≡ Kelvin (kelvin (natAbs (deliver (temperatureOf constants count))))
     rules-scene h =
-        flag-zero-scene s c means deliver count (unflagged-flag-zero s (targetOf c) means (rules-unflagged h))
+        flag-zero-scene s c shelf means deliver count (rules-flag-zero h)
         ∙ delivered-exactly-when deliver constants count .1 (rules-pass h)
 
     -- and only by the rules is it a temperature
@@ -198,8 +208,8 @@ module _ (s : Settings) (m : Moment) (c i : ℕ) where
     scene-rules true unflagged x e =
         let none = eqb-true (flagOf s (targetOf c) means) 0 unflagged in
         pass-rules (flag-zero-unflagged s (targetOf c) means none)
-        (delivered-exactly-when deliver constants count .0 x (sym (flag-zero-scene s c means deliver count none) ∙ e))
-    scene-rules false some x e = absurd (clash (sym (flagged-scene s c means deliver count some) ∙ e))
+        (delivered-exactly-when deliver constants count .0 x (sym (flag-zero-scene s c shelf means deliver count none) ∙ e))
+    scene-rules false some x e = absurd (clash (sym (flagged-scene s c shelf means deliver count some) ∙ e))
       where
         clash : Flagged ≡ Kelvin x → ⊥
         clash q = let z : _≡_ {A = ℕ} 0 1 = cc in omega arith
@@ -209,6 +219,24 @@ module _ (s : Settings) (m : Moment) (c i : ℕ) where
     delivered-rules Flagged e d = absurd (false≢true d)
     delivered-rules Outside e d = absurd (false≢true d)
     delivered-rules Guard e d = absurd (false≢true d)
+
+-- ---- before scan bias: T is at most 21/8 units from E
+module _ (s : Settings) (m : Moment) (c i : ℕ) (range : SettingsRange s) (below : c < channels) where
+  weights-above : ByTheRules s m c i → pos 0 <ℤ pos (meansAt s m c .weights)
+  weights-above h = natural-below (flag-zero-weights-above range (targetOf c) (meansAt s m c) (rules-flag-zero s m c i h))
+
+  tnl-above : pos 0 <ℤ unroundedTnlAt s m c .den
+  tnl-above = unrounded-above (range .channel c below .pair) (shelfAt s m c)
+
+  temperature-near : ByTheRules s m c i → Distance (pos 21 /ᶠ pos 8) (tAt s m c i) (eAt s m c i)
+  temperature-near h =
+      let sums = meansAt s m c in
+      let pairs = range .channel c below .pair in
+      temperature-distance (Tc (s .channel c)) (tnlAt s m c) (pos (sums .weighted)) (pos (sums .weights)) (s .channel c .b) (unroundedTnlAt s m c) (h .warmAboveCold) (h .notBelow) (h .notAbove)
+      (tnl-bounded pairs (shelfAt s m c)) (weights-above h) tnl-above (tnl-within-half pairs (shelfAt s m c))
+
+pub distance-before-bias : DistanceBeforeBias
+distance-before-bias f i = temperature-near (settingsOfFed f) (momentOfFed f) (f .channel) i (accepted-ranges (f .tableAccepted)) (f .isChannel)
 
 -- ---- and the product's bytes
 module _ (s : Settings) (bias : List ℕ) (m : Moment) (c i : ℕ) (range : SettingsRange s) (file : AcceptedBias bias) (below : c < channels) (inside : i < positions) (rest : List ℕ) where
@@ -228,9 +256,9 @@ module _ (s : Settings) (bias : List ℕ) (m : Moment) (c i : ℕ) (range : Sett
   pair = accepted-bias-ranges file c below i inside
 
   -- what is delivered is a whole number of units whose f32 is exact
-  in-units : InUnitsBy deliver (stateOf s c sums)
+  in-units : InUnitsBy deliver (stateOf s c (shelfAt s m c) sums)
   in-units = record {
-    within = flag-zero-constants s c sums (λ k. (n : ℕ) → Passes k n → WithinGuard (deliver (temperatureOf k n)))
+    within = flag-zero-constants s c (shelfAt s m c) sums (λ k. (n : ℕ) → Passes k n → WithinGuard (deliver (temperatureOf k n)))
         (λ zero-flag n passed. units-by-bias pair (passes-range s m c i range below zero-flag n passed));
   }
 
@@ -240,19 +268,16 @@ module _ (s : Settings) (bias : List ℕ) (m : Moment) (c i : ℕ) (range : Sett
   pub word-is : wordAt product c i ≡ bits (scene s m c i deliver)
   word-is =
       scene-in-product (byBias bias) (currentNumber m) (channelsAt s m) (earthCounts (m .scan)) rest c below i inside
-      ∙ ap (λ (channel : Channel). bits (sceneAt (byBias bias c) channel (earthPart (earthCounts (m .scan)) c) i)) (getD-tabulate (λ c. stateOf s c (meansAt s m c)) channels c noChannel below)
+      ∙ ap (λ (channel : Channel). bits (sceneAt (byBias bias c) channel (earthPart (earthCounts (m .scan)) c) i)) (getD-tabulate (λ c. stateOf s c (shelfAt s m c) (meansAt s m c)) channels c noChannel below)
 
   pub word-delivered : isDelivered (wordAt product c i) ≡ delivered (scene s m c i deliver)
-  word-delivered = ap isDelivered word-is ∙ bits-delivered deliver (stateOf s c sums) in-units sceneCount
+  word-delivered = ap isDelivered word-is ∙ bits-delivered deliver (stateOf s c (shelfAt s m c) sums) in-units sceneCount
 
   rules : isDelivered (wordAt product c i) ≡ true → ByTheRules s m c i
   rules h = delivered-rules s m c i deliver (scene s m c i deliver) refl (sym word-delivered ∙ h)
 
   delivers : ByTheRules s m c i → isDelivered (wordAt product c i) ≡ true
   delivers h = word-delivered ∙ ap delivered (rules-scene s m c i deliver h)
-
-  flag-zero : ByTheRules s m c i → flagOf s (targetOf c) sums ≡ 0
-  flag-zero h = unflagged-flag-zero s (targetOf c) sums (rules-unflagged s m c i h)
 
   -- the f32 is that of the delivered temperature
   float-is : (h : ByTheRules s m c i) → ofBits binary32 (wordAt product c i) ≡ kelvin (natAbs (deliver (temperatureOf ofChannel sceneCount)))
@@ -262,21 +287,12 @@ module _ (s : Settings) (bias : List ℕ) (m : Moment) (c i : ℕ) (range : Sett
   -- 4096 times the f32 is the delivered temperature
   exactly : (h : ByTheRules s m c i) → Equal (unitsAt product c i) (whole (deliveredAt s m c i bias))
   exactly h =
-      let within = units-by-bias pair (passes-range s m c i range below (flag-zero h) sceneCount (rules-pass s m c i h)) in
+      let within = units-by-bias pair (passes-range s m c i range below (rules-flag-zero s m c i h) sceneCount (rules-pass s m c i h)) in
       subst₂ (λ (x : Float) (z : ℤ). Equal (unitsOf x) (whole z)) (sym (float-is h)) (within .same ∙ sym (ap deliver (t-is-temperature s m c i)))
       (units-of-kelvin (natAbs (deliver (temperatureOf ofChannel sceneCount))) (within .low) (within .high))
 
-  weights-above : ByTheRules s m c i → pos 0 <ℤ pos (sums .weights)
-  weights-above h = natural-below (flag-zero-weights-above range (targetOf c) sums (flag-zero h))
-
-  -- T is at most 2 units from E
-  distance-of-t : (h : ByTheRules s m c i) → Distance (pos 2 /ᶠ pos 1) (tAt s m c i) (eAt s m c i)
-  distance-of-t h =
-      temperature-distance (Tc (s .channel c)) (s .channel c .tnl) (pos (sums .weighted)) (pos (sums .weights)) (s .channel c .b) (h .warmAboveCold) (h .notBelow) (h .notAbove) (range .channel c below .tnl)
-      (weights-above h)
-
-  near-e : (h : ByTheRules s m c i) → Near (pos 7 /ᶠ pos 2) (unitsAt product c i) (biasedEAt s m c i bias)
-  near-e h = near-of-distance (exactly h) (biased-distance (c0In (biasPart bias c) i) (e-bounded pair) one-above (distance-of-t h))
+  near-e : (h : ByTheRules s m c i) → Near (pos 71 /ᶠ pos 16) (unitsAt product c i) (biasedEAt s m c i bias)
+  near-e h = near-of-distance (exactly h) (biased-distance (c0In (biasPart bias c) i) (e-bounded pair) (ltZ-yes tt) (temperature-near s m c i range below h))
 
   -- E by the equations
   rise-above : (h : ByTheRules s m c i) → pos 0 <ℤ (unroundedTw (pos (sums .weighted)) (pos (sums .weights)) (s .channel c .b) -ᶠ whole (Tc (s .channel c))) .num
@@ -288,14 +304,14 @@ module _ (s : Settings) (bias : List ℕ) (m : Moment) (c i : ℕ) (range : Sett
       ((# 0 :< v1) ∷ (# 873062 :* v1 :≤ v0) ∷ (opp (# 4096) :≤ v2) ∷ (v3 :≤ # 43934) ∷ [])
       (# 0) ((v0 :* # 1 :+ v2 :* v1) :* # 1 :- v3 :* (v1 :* # 1))
       (hyp 0 ⊕ nat 825032 ⊗ hyp 1 ⊕ hyp 2 ⊕ hyp 3 ⊕ hyp 4 ⊕ hyp 1 ⊗ hyp 3 ⊕ hyp 1 ⊗ hyp 4)
-      tt (weights-above h) (natural-at-most least) (row .b .low) (natural-at-most cold)
+      tt (weights-above s m c i range below h) (natural-at-most least) (row .b .low) (natural-at-most cold)
 
   by-equations : (h : ByTheRules s m c i) → Equal (equationsAt s m c i) (eAt s m c i)
   by-equations h =
-      let z = flag-zero h in
-      corrected-same (pos (sums .aw)) (pos (sums .ac)) (pos sceneCount) (Tc (s .channel c)) (s .channel c .tnl) (unroundedTw (pos (sums .weighted)) (pos (sums .weights)) (s .channel c .b))
+      let z = rules-flag-zero s m c i h in
+      corrected-same (pos (sums .aw)) (pos (sums .ac)) (pos sceneCount) (Tc (s .channel c)) (unroundedTw (pos (sums .weighted)) (pos (sums .weights)) (s .channel c .b)) (unroundedTnlAt s m c)
       (natural-below (flag-zero-warm-above range (targetOf c) sums z)) (natural-below (flag-zero-cold-above range (targetOf c) sums z)) (h .warmAboveCold)
-      (product-above (weights-above h) one-above) (rise-above h)
+      (product-above (weights-above s m c i range below h) one-above) (rise-above h) (tnl-above s m c i range below)
 
   pub scene-claim : SceneClaim s bias m (productAt s m (byBias bias) ++ rest) c i
   scene-claim = record { rules = rules; delivers = delivers; exact = λ h. exactly (rules h); distance = λ h. near-e (rules h); equations = λ h. by-equations (rules h) }
@@ -306,5 +322,5 @@ module _ (s : Settings) (bias : List ℕ) (m : Moment) (range : SettingsRange s)
   delivered-in =
       delivered-count (byBias bias) (channelsAt s m) (earthCounts (m .scan))
       ∙ sum-same _ _ channels (λ c below. count-same _ _ positions (λ i inside.
-      ap (λ (channel : Channel). delivered (sceneAt (byBias bias c) channel (earthPart (earthCounts (m .scan)) c) i)) (getD-tabulate (λ c. stateOf s c (meansAt s m c)) channels c noChannel below)
+      ap (λ (channel : Channel). delivered (sceneAt (byBias bias c) channel (earthPart (earthCounts (m .scan)) c) i)) (getD-tabulate (λ c. stateOf s c (shelfAt s m c) (meansAt s m c)) channels c noChannel below)
       ∙ sym (word-delivered s bias m c i range file below inside rest)))

@@ -6,3 +6,4 @@ pub mod Restart
 pub mod Outcomes
 pub mod WithoutBias
 pub mod SameScenes
+pub mod BeforeBias

@@ -1,4 +1,4 @@
--- Document 01, "Lists of feeds" and demand 3, and request W1, of one moment: the records that stand, and the record whose scenes are meant.
+-- Document 01, "Lists of feeds" and demand 3, and requests W1 and W4, of one moment: the records that stand, and the record whose scenes are meant.
 -- Every product is made of one moment, the table and the bias file.
 use Prim.Native.Nat.{ℕ, _+_, _*_}
 use mathlib.Core.Path.{_≡_}
@@ -16,8 +16,9 @@ use Rattle.fields.specs.Numbers.{u16At, u32At}
 use Rattle.fields.specs.Fields.{valueStart}
 use Rattle.instrument.specs.declared.Side.the-variants.{Warm, Cold}
 use Rattle.table.specs.Settings.{Settings}
-use Rattle.instrument.specs.Instrument.{channels, positions, targetOf}
-use Rattle.record.specs.Record.{scanNumber, earthCounts, earthPart}
+use Rattle.instrument.specs.Instrument.{channels, positions, targetOf, shelfOf}
+use Rattle.record.specs.Record.{scanNumber, earthCounts, earthPart, shelfTemperatures, shelfTemperature}
+use Rattle.nonlinearity.specs.Interpolation.{unroundedTnl, tnlOf}
 use Rattle.window.specs.declared.Means.{Means}
 use Rattle.scene.specs.declared.Channel.{Channel}
 use Rattle.window.specs.Means.{Tw, Tc, D, tooFewThermometers, tooFewCounts, stateOf}
@@ -40,10 +41,21 @@ abbrev pub currentNumber : Moment → ℕ
 currentNumber m = scanNumber (m .scan)
 
 -- ---- what channel c makes of a count, by the accepted samples of the window; and the product, with this record's earth counts
+-- and shelf temperatures
 module _ (s : Settings) (m : Moment) where
   -- the sums of channel c; the window has the standing records with ages 0..7
   abbrev pub meansAt : ℕ → Means
   meansAt c = sumsOf s (λ k. samplesOfAge s (m .standing) (currentNumber m) k) c
+
+  -- Request W4: TNL of channel c, from this record's own shelf temperature; whole and unrounded
+  abbrev pub shelfAt : ℕ → ℤ
+  shelfAt c = shelfTemperature (shelfTemperatures (m .scan)) (shelfOf c)
+
+  abbrev pub tnlAt : ℕ → ℤ
+  tnlAt c = tnlOf (s .channel c .pair) (shelfAt c)
+
+  abbrev pub unroundedTnlAt : ℕ → Fraction
+  unroundedTnlAt c = unroundedTnl (s .channel c .pair) (shelfAt c)
 
   -- D of channel c, and N and T of a count there
   abbrev pub dAt : ℕ → ℤ
@@ -53,10 +65,10 @@ module _ (s : Settings) (m : Moment) where
   nOf c count = let sums = meansAt c in N (pos (sums .ww)) (pos (sums .wc)) (pos (sums .ac)) count
 
   abbrev pub tOf : ℕ → ℤ → ℤ
-  tOf c count = let channel = s .channel c in temperature (Tc channel) (Tw (meansAt c) channel -ℤ Tc channel) (channel .tnl) (dAt c) (nOf c count)
+  tOf c count = let channel = s .channel c in temperature (Tc channel) (Tw (meansAt c) channel -ℤ Tc channel) (tnlAt c) (dAt c) (nOf c count)
 
   abbrev pub channelsAt : List Channel
-  channelsAt = tabulate (λ c. stateOf s c (meansAt c)) channels
+  channelsAt = tabulate (λ c. stateOf s c (shelfAt c) (meansAt c)) channels
 
   abbrev pub productAt : (ℕ → Deliver) → List ℕ
   productAt deliver = productOf deliver (currentNumber m) channelsAt (earthCounts (m .scan))
@@ -76,12 +88,12 @@ module _ (s : Settings) (m : Moment) (c i : ℕ) where
   unroundedTwAt = let sums = meansAt s m c in unroundedTw (pos (sums .weighted)) (pos (sums .weights)) (s .channel c .b)
 
   abbrev pub eAt : Fraction
-  eAt = let channel = s .channel c in E (nAt /ᶠ dAt s m c) unroundedTwAt (whole (Tc channel)) (whole (channel .tnl))
+  eAt = E (nAt /ᶠ dAt s m c) unroundedTwAt (whole (Tc (s .channel c))) (unroundedTnlAt s m c)
 
-  -- T by equations 25 to 29, one by one, from the mean counts and the unrounded Tw
+  -- T by equations 25 to 29, one by one, from the mean counts, the unrounded Tw and the unrounded TNL
   abbrev pub equationsAt : Fraction
   equationsAt =
-      let sums = meansAt s m c in corrected (meanCount (pos (sums .aw)) (pos (sums .ww))) (meanCount (pos (sums .ac)) (pos (sums .wc))) unroundedTwAt (whole (Tc (s .channel c))) (whole (s .channel c .tnl)) (whole countAt)
+      let sums = meansAt s m c in corrected (meanCount (pos (sums .aw)) (pos (sums .ww))) (meanCount (pos (sums .ac)) (pos (sums .wc))) unroundedTwAt (whole (Tc (s .channel c))) (unroundedTnlAt s m c) (whole countAt)
 
   -- with scan bias: what is delivered for T, and equation 30 over E
   abbrev pub deliveredAt : (bias : List ℕ) → ℤ
@@ -124,7 +136,7 @@ pub record SceneClaim (s : Settings) (bias : List ℕ) (m : Moment) (product : L
   pub delivers : ByTheRules s m c i → isDelivered (wordAt product c i) ≡ true
   -- it is then exactly the delivered temperature / 4096
   pub exact : isDelivered (wordAt product c i) ≡ true → Equal (unitsAt product c i) (whole (deliveredAt s m c i bias))
-  -- and at most 7/2 units from c0 + (1 + e / 65,536) E
-  pub distance : isDelivered (wordAt product c i) ≡ true → Near (pos 7 /ᶠ pos 2) (unitsAt product c i) (biasedEAt s m c i bias)
+  -- and at most 71/16 units from c0 + (1 + e / 65,536) E
+  pub distance : isDelivered (wordAt product c i) ≡ true → Near (pos 71 /ᶠ pos 16) (unitsAt product c i) (biasedEAt s m c i bias)
   -- where E is what equations 25 to 29 give
   pub equations : isDelivered (wordAt product c i) ≡ true → Equal (equationsAt s m c i) (eAt s m c i)

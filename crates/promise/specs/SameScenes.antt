@@ -23,7 +23,7 @@ use Rattle.calibrator.specs.Feeding.{Feed, freshOf, outcomeAfter}
 use Rattle.promise.specs.Roll.{verdictAt}
 use Rattle.promise.specs.Restart.{rolledBy}
 use Rattle.promise.specs.Outcomes.{fedMoment}
-use Rattle.promise.specs.Moments.{Moment, meansAt, dAt, nOf, tOf, countAt, wordAt, isDelivered, unitsAt}
+use Rattle.promise.specs.Moments.{Moment, meansAt, tnlAt, dAt, nOf, tOf, countAt, wordAt, isDelivered, unitsAt}
 
 -- a scene before scan bias: T, in units, or a mark
 pub data TOrMark : Type 0 where
@@ -48,7 +48,7 @@ module _ (s : Settings) (m : Moment) (c : ℕ) where
   abbrev pub sixNumbers : List ℤ
   sixNumbers =
       let channel = s .channel c in let sums = meansAt s m c in
-      Tc channel ∷ (Tw sums channel -ℤ Tc channel) ∷ channel .tnl ∷ dAt s m c ∷ (pos 12 *ℤ pos (sums .wc) *ℤ pos (sums .ww)) ∷ (pos (sums .ac) *ℤ pos (sums .ww)) ∷ []
+      Tc channel ∷ (Tw sums channel -ℤ Tc channel) ∷ tnlAt s m c ∷ dAt s m c ∷ (pos 12 *ℤ pos (sums .wc) *ℤ pos (sums .ww)) ∷ (pos (sums .ac) *ℤ pos (sums .ww)) ∷ []
 
 -- ---- a channel of an accepted feed, under an accepted table, after a list of feeds from a fresh calibrator
 pub record FedChannel : Type 0 where

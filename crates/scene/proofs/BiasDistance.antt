@@ -1,5 +1,5 @@
 -- How far what is delivered is from equation 30 over E: 3/2 of how far T is from E, since 65,536 + e is at most 3/2 of 65,536, and a half for
--- the rounding of scan bias itself. So 2 becomes 7/2.
+-- the rounding of scan bias itself. So 21/8 becomes 71/16.
 use mathlib.Core.List.{[], _∷_}
 use lib.IntN.{ℤ, pos, _+ℤ_, _*ℤ_}
 use lib.Signed.{_<ℤ_, ltZ-yes}

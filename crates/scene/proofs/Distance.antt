@@ -1,6 +1,6 @@
 -- How far T is from the unrounded temperature, in layers. Of each rounding only `WithinHalf` is used.
--- With Tw rounded: 1/2 from the linear part, 1/2 from the bend, 3/8 from X. Tw's own rounding adds 5/8, so T is within 2 of E.
--- A TNL that is itself within a half of a fraction adds 5/8 more.
+-- With Tw and TNL rounded: 1/2 from the linear part, 1/2 from the bend, 3/8 from X. Tw's own rounding adds 5/8, and TNL's, which is that of
+-- an interpolation, 5/8 more, so T is within 21/8 of E.
 use mathlib.Core.List.{[], _∷_}
 use lib.IntN.{ℤ, pos, _+ℤ_, _-ℤ_, _*ℤ_}
 use lib.Signed.{_≤ℤ_, _<ℤ_, leZ-yes, ltZ-yes}
@@ -48,7 +48,7 @@ quadratic-den-above p q = product-above (product-above (product-above one-above 
 E-den-above : {weights d e : ℤ} → pos 0 <ℤ weights → pos 0 <ℤ d → pos 0 <ℤ e → pos 0 <ℤ (pos 1 *ℤ (d *ℤ (weights *ℤ pos 1 *ℤ pos 1)) *ℤ (pos 1 *ℤ d *ℤ (pos 1 *ℤ d) *ℤ e))
 E-den-above w p q = product-above (product-above one-above (product-above p (product-above (product-above w one-above) one-above))) (quadratic-den-above p q)
 
--- ---- Tw rounded: Tc + x rise + 4x(1 - x) TNL, x = N / D, over D D
+-- ---- Tw and TNL rounded: Tc + x rise + 4x(1 - x) TNL, x = N / D, over D D
 abbrev withRise : (tc rise tnl d n : ℤ) → Fraction
 withRise tc rise tnl d n = (tc *ℤ (d *ℤ d) +ℤ n *ℤ d *ℤ rise +ℤ pos 4 *ℤ n *ℤ (d -ℤ n) *ℤ tnl) /ᶠ (d *ℤ d)
 
@@ -104,7 +104,7 @@ module _ (b : ℤ) {weights weighted tc tnl d n mean x linear bend : ℤ} (w : p
         (bounded-sum (bounded-product (distance-over-d s .apart) (above-bounded w)) (bounded-product (bounded-product four-n-bounded (m .twice)) (above-bounded (s .d-above))));
   }
 
-  -- T is within 2 of E
+  -- T is within 2 of E with TNL rounded
   pub distance-with-mean : Distance (pos 2 /ᶠ pos 1) (tc +ℤ linear +ℤ bend) (E (n /ᶠ d) (unroundedTw weighted weights b) (whole tc) (whole tnl))
   distance-with-mean = distance-same (E (n /ᶠ d) (unroundedTw weighted weights b) (whole tc) (whole tnl))
       (E-den-above w (s .d-above) one-above)
@@ -113,7 +113,7 @@ module _ (b : ℤ) {weights weighted tc tnl d n mean x linear bend : ℤ} (w : p
       (Eᵉ (v6 /ᵉ v5) (v1 /ᵉ v0 +ᵉ wholeᵉ v2) (wholeᵉ v3) (wholeᵉ v4)) tt)
       (distance-weaker (ltZ-yes tt) (ltZ-yes tt) (leZ-yes tt) distance-over-weights)
 
-  -- ---- TNL a rounding of a fraction: 2 + 5/4 × 1/2
+  -- ---- TNL unrounded, a fraction: 2 + 5/4 × 1/2
   sixteen-x-bounded : Bounded (pos 16 *ℤ n *ℤ (d -ℤ n)) (pos 5 *ℤ (d *ℤ d))
   sixteen-x-bounded = record {
     low = (le-by (d ∷ n ∷ []) ((# 0 :≤ v1) ∷ (# 4 :* v1 :≤ # 5 :* v0) ∷ (# 0 :< v0) ∷ []) (opp (# 5 :* (v0 :* v0))) (# 16 :* v1 :* (v0 :- v1)) (nat 5 ⊗ hyp 0 ⊕ nat 24 ⊗ hyp 1 ⊗ hyp 2 ⊕ hyp 2 ⊗ hyp 2) tt (s .n-low) (s .n-high) (s .d-above));
@@ -153,8 +153,11 @@ roundings-of tc rise tnl {d} {n} p low high t = record {
   bend-near = r-within-half (pos 4 *ℤ X n d *ℤ (pos 65536 -ℤ X n d) *ℤ tnl) (ltZ-yes tt);
 }
 
--- T is within 2 units of E, with Tw = r(weighted, weights) + b
-pub temperature-distance : (tc tnl weighted weights b : ℤ) {d n : ℤ} → pos 0 <ℤ d → pos 0 ≤ℤ n → (pos 4 *ℤ n) ≤ℤ (pos 5 *ℤ d) → Bounded tnl (pos 8192) → pos 0 <ℤ weights
-    → Distance (pos 2 /ᶠ pos 1) (temperature tc (r weighted weights +ℤ b -ℤ tc) tnl d n) (E (n /ᶠ d) (unroundedTw weighted weights b) (whole tc) (whole tnl))
+-- T is within 21/8 units of E, with Tw = r(weighted, weights) + b and TNL within a half of a fraction
+pub temperature-distance : (tc tnl weighted weights b : ℤ) {d n : ℤ} (unrounded : Fraction)
+    → pos 0 <ℤ d → pos 0 ≤ℤ n → (pos 4 *ℤ n) ≤ℤ (pos 5 *ℤ d) → Bounded tnl (pos 8192) → pos 0 <ℤ weights
+    → pos 0 <ℤ unrounded .den → WithinHalf (unrounded .num) (unrounded .den) tnl
+    → Distance (pos 21 /ᶠ pos 8) (temperature tc (r weighted weights +ℤ b -ℤ tc) tnl d n) (E (n /ᶠ d) (unroundedTw weighted weights b) (whole tc) unrounded)
 unfolding temperature
-temperature-distance tc tnl weighted weights b p low high t w = distance-with-mean b w (r-within-half weighted w) (roundings-of tc (r weighted weights +ℤ b -ℤ tc) tnl p low high t)
+temperature-distance tc tnl weighted weights b unrounded p low high t w above near =
+    distance-with-any-tnl b w (r-within-half weighted w) (roundings-of tc (r weighted weights +ℤ b -ℤ tc) tnl p low high t) above near

@@ -27,9 +27,9 @@ counts-identity Aw Ww Ac Wc C = same-fraction (Aw ∷ Ww ∷ Ac ∷ Wc ∷ C ∷
     (wholeᵉ (# 1) +ᵉ (wholeᵉ v4 -ᵉ v0 /ᵉ (# 12 :* v1)) ÷ᵉ (v0 /ᵉ (# 12 :* v1) -ᵉ v2 /ᵉ (# 12 :* v3)))
     (((# 12 :* v3 :* v4 :- v2) :* v1) /ᵉ (v0 :* v3 :- v2 :* v1)) tt
 
--- ---- the equations. Each divisor is above 0: the weights, D, Tw's denominator and Tw - Tc
-module _ (Aw Ac C tc tnl : ℤ) (tw : Fraction) {Ww Wc : ℤ} (warm : pos 0 <ℤ Ww) (cold : pos 0 <ℤ Wc) (d : pos 0 <ℤ (Aw *ℤ Wc -ℤ Ac *ℤ Ww))
-    (tw-above : pos 0 <ℤ tw .den) (rise-above : pos 0 <ℤ (tw -ᶠ whole tc) .num) where
+-- ---- the equations. Each divisor is above 0: the weights, D, the denominators of Tw and TNL, and Tw - Tc
+module _ (Aw Ac C tc : ℤ) (tw tnl : Fraction) {Ww Wc : ℤ} (warm : pos 0 <ℤ Ww) (cold : pos 0 <ℤ Wc) (d : pos 0 <ℤ (Aw *ℤ Wc -ℤ Ac *ℤ Ww))
+    (tw-above : pos 0 <ℤ tw .den) (rise-above : pos 0 <ℤ (tw -ᶠ whole tc) .num) (tnl-above : pos 0 <ℤ tnl .den) where
   mean-above : pos 0 <ℤ (pos 12 *ℤ Ww)
   mean-above = product-above {a = pos 12} (ltZ-yes tt) warm
 
@@ -64,10 +64,10 @@ module _ (Aw Ac C tc tnl : ℤ) (tw : Fraction) {Ww Wc : ℤ} (warm : pos 0 <ℤ
       let divided = same-divided (tw -ᶠ whole tc) rise-above (same-difference linear-same (same-itself {a = whole tc} one-above)) in
       same-trans divided (record { left-above = divided .right-above; right-above = d; same = relative-identity (N Ww Wc Ac C /ᶠ (Aw *ℤ Wc -ℤ Ac *ℤ Ww)) (tw -ᶠ whole tc) (whole tc) })
 
-  quadratic-same : Equal (quadratic (relative (meanCount Aw Ww) (meanCount Ac Wc) tw (whole tc) (whole C)) (whole tnl)) (quadratic (N Ww Wc Ac C /ᶠ (Aw *ℤ Wc -ℤ Ac *ℤ Ww)) (whole tnl))
+  quadratic-same : Equal (quadratic (relative (meanCount Aw Ww) (meanCount Ac Wc) tw (whole tc) (whole C)) tnl) (quadratic (N Ww Wc Ac C /ᶠ (Aw *ℤ Wc -ℤ Ac *ℤ Ww)) tnl)
   quadratic-same =
-      same-product (same-product (same-product (same-itself {a = whole (pos 4)} one-above) relative-same) (same-difference (same-itself {a = whole (pos 1)} one-above) relative-same)) (same-itself {a = whole tnl} one-above)
+      same-product (same-product (same-product (same-itself {a = whole (pos 4)} one-above) relative-same) (same-difference (same-itself {a = whole (pos 1)} one-above) relative-same)) (same-itself tnl-above)
 
   -- T is E
-  pub corrected-same : Equal (corrected (meanCount Aw Ww) (meanCount Ac Wc) tw (whole tc) (whole tnl) (whole C)) (E (N Ww Wc Ac C /ᶠ (Aw *ℤ Wc -ℤ Ac *ℤ Ww)) tw (whole tc) (whole tnl))
+  pub corrected-same : Equal (corrected (meanCount Aw Ww) (meanCount Ac Wc) tw (whole tc) tnl (whole C)) (E (N Ww Wc Ac C /ᶠ (Aw *ℤ Wc -ℤ Ac *ℤ Ww)) tw (whole tc) tnl)
   corrected-same = same-sum linear-same quadratic-same

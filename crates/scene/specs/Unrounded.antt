@@ -1,4 +1,4 @@
--- Document 01, "Scenes" and document 004, equations 25 to 29: the unrounded temperature as a fraction.
+-- Document 01, "Scenes", document 004, equations 25 to 29, and requests W1 and W4: the unrounded temperature as a fraction.
 use lib.IntN.{ℤ, pos, _*ℤ_}
 use Rattle.integers.specs.Fractions.{Fraction, _/ᶠ_, whole, _+ᶠ_, _-ᶠ_, _*ᶠ_, _÷ᶠ_}
 
@@ -6,7 +6,7 @@ use Rattle.integers.specs.Fractions.{Fraction, _/ᶠ_, whole, _+ᶠ_, _-ᶠ_, _
 abbrev pub unroundedTw : (weighted weights b : ℤ) → Fraction
 unroundedTw weighted weights b = weighted /ᶠ weights +ᶠ whole b
 
--- E is Tc + x(Tw - Tc) + 4x(1 - x) TNL with Tw unrounded
+-- E is Tc + x(Tw - Tc) + 4x(1 - x) TNL with Tw and, by request W4, TNL unrounded
 abbrev pub E : (x tw tc tnl : Fraction) → Fraction
 E x tw tc tnl = tc +ᶠ x *ᶠ (tw -ᶠ tc) +ᶠ whole (pos 4) *ᶠ x *ᶠ (whole (pos 1) -ᶠ x) *ᶠ tnl
 

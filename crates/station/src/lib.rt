@@ -125,5 +125,5 @@ pub extern "C" fn sounder_feed(state: &mut [u8], scan: &[u8], buffer: &mut [u8])
 pub extern "C" fn sounder_version() -> u32
     ensures { λ n. ⌜ n ≡ libraryVersion ⌝ }
 {
-    30_000
+    40_000
 }

@@ -1,14 +1,16 @@
 -- Values that pass the tests of `valuesInside` are in the ranges of `SettingsRange`.
-use Prim.Native.Nat.{ℕ, _≤_}
+use Prim.Native.Nat.{ℕ, _+_, _-_, _≤_, _<_}
+use native.Mathlib.Omega.{arith}
 use mathlib.Core.Path.{_≡_}
-use mathlib.Core.List.{[], _∷_}
-use mathlib.Core.Bool.{Bool, true, _&&_, and-eq-true-iff}
-use lib.Dec.{leb}
+use mathlib.Core.List.{List, [], _∷_}
+use mathlib.Core.Bool.{Bool, true, _&&_, _||_, and-eq-true-iff}
+use lib.Dec.{eqb, leb}
+use lib.ListN.{getD}
 use lib.IntN.{ℤ, pos, negℤ}
-use lib.Signed.{leZ}
-use borrow.Author.Tests.{leb-true}
+use lib.Signed.{leZ, ltZ, _<ℤ_}
+use borrow.Author.Tests.{leb-true, ne-eqb}
 use Rattle.integers.specs.Bounds.{Bounded}
-use Rattle.integers.proofs.Order.{leZ-true}
+use Rattle.integers.proofs.Order.{leZ-true, ltZ-true}
 use Rattle.lists.specs.Sum.{sum}
 use Rattle.lists.specs.Count.{every}
 use Rattle.lists.proofs.Every.{each-of-every, each-of-all}
@@ -19,9 +21,10 @@ use Rattle.instrument.specs.declared.Target.{Target}
 use Rattle.instrument.specs.declared.Target.the-variants.{Kav, Wg}
 use Rattle.instrument.specs.Instrument.{thermometers, channels, sizeOf}
 use Rattle.table.specs.declared.Thermometer.{Thermometer}
-use Rattle.table.specs.Settings.{Channel, Settings}
-use Rattle.table.specs.Ranges.{sizeTo, leastsInside, thermometerLimitsInside, thermometerInside, channelInside, weightOf, sumsInside, valuesInside}
-use Rattle.table.specs.ValueRanges.{Between, ThermometerRange, ChannelRange, SettingsRange}
+use Rattle.table.specs.declared.ShelfPair.{ShelfPair}
+use Rattle.table.specs.Settings.{pairs, Channel, Settings}
+use Rattle.table.specs.Ranges.{sizeTo, leastsInside, thermometerLimitsInside, thermometerInside, channelInside, pairInside, weightOf, sumsInside, valuesInside}
+use Rattle.table.specs.ValueRanges.{Between, ThermometerRange, ShelfPairsRange, ChannelRange, SettingsRange}
 
 -- ---- one test
 both : (a b : Bool) → (a && b) ≡ true → (a ≡ true) × (b ≡ true)
@@ -63,16 +66,33 @@ thermometer-in-range t holds =
       };
     }
 
-channel-in-range : (c : Channel) → channelInside c ≡ true → ChannelRange c
+module _ (pair : ℕ → ShelfPair) (holds : every (pairInside pair) pairs ≡ true) where
+  abbrev pairTests : ℕ → List Bool
+  pairTests j = sizeTo 245760 (pair j .shelf) ∷ sizeTo 8192 (pair j .tnl) ∷ (eqb j 0 || ltZ (pair (j - 1) .shelf) (pair j .shelf)) ∷ []
+
+  pair-test : (j : ℕ) → j < pairs → (k : ℕ) → getD (pairTests j) k true ≡ true
+  unfolding pairInside
+  pair-test j below = each-of-all (pairTests j) (each-of-every (pairInside pair) pairs j holds below)
+
+  shelf-rises : (j : ℕ) → j + 1 < pairs → pair j .shelf <ℤ pair (j + 1) .shelf
+  shelf-rises j below =
+      let before : j + 1 - 1 ≡ j = omega arith in
+      let rises = pair-test (j + 1) below 2 in
+      ltZ-true (rw (ne-eqb (j + 1) 0 (λ first. omega arith), before) at rises)
+
+  shelf-pairs-in-range : ShelfPairsRange pair
+  shelf-pairs-in-range = record { shelf = λ j below. bounded (pair-test j below 0); tnl = λ j below. bounded (pair-test j below 1); rises = shelf-rises }
+
+channel-in-range : (c : Channel) → channelInside c ≡ true → every (pairInside (c .pair)) pairs ≡ true → ChannelRange c
 unfolding channelInside
-channel-in-range c holds =
-    let test = each-of-all (leb (c .limits Warm .low) (c .limits Warm .upp) ∷ leb (c .limits Cold .low) (c .limits Cold .upp) ∷ sizeTo 4096 (c .b) ∷ leb (c .rj) 16384 ∷ leb (c .sl) 16384 ∷ sizeTo 8192 (c .tnl) ∷ []) holds in
+channel-in-range c holds pairs-hold =
+    let test = each-of-all (leb (c .limits Warm .low) (c .limits Warm .upp) ∷ leb (c .limits Cold .low) (c .limits Cold .upp) ∷ sizeTo 4096 (c .b) ∷ leb (c .rj) 16384 ∷ leb (c .sl) 16384 ∷ sizeTo 0 (c .tnl) ∷ []) holds in
     record {
       limits = each-side (λ side. c .limits side .low ≤ c .limits side .upp) (leb-true _ _ (test 0)) (leb-true _ _ (test 1));
       b = bounded (test 2);
       rj = leb-true _ _ (test 3);
       sl = leb-true _ _ (test 4);
-      tnl = bounded (test 5);
+      pair = shelf-pairs-in-range (c .pair) pairs-hold;
     }
 
 -- ---- the whole table
@@ -81,10 +101,11 @@ unfolding valuesInside leastsInside thermometerLimitsInside sumsInside
 values-in-range s holds =
     let thermometerTest : ℕ → Bool = λ i. thermometerInside (s .thermometer i) in
     let channelTest : ℕ → Bool = λ c. channelInside (s .channel c) in
-    let part = each-of-all (leastsInside s ∷ thermometerLimitsInside s ∷ every thermometerTest thermometers ∷ every channelTest channels ∷ sumsInside s ∷ []) holds in
+    let pairsTest : ℕ → Bool = λ c. every (pairInside (s .channel c .pair)) pairs in
+    let part = each-of-all (leastsInside s ∷ thermometerLimitsInside s ∷ every thermometerTest thermometers ∷ every channelTest channels ∷ every pairsTest channels ∷ sumsInside s ∷ []) holds in
     let least = each-of-all (fromTo 1 100 (s .percentThermometers) ∷ fromTo 1 100 (s .percent Warm) ∷ fromTo 1 100 (s .percent Cold) ∷ fromTo 1 (sizeOf Kav) (s .least Kav) ∷ fromTo 1 (sizeOf Wg) (s .least Wg) ∷ []) (part 0) in
     let limit = each-of-all (resistanceInside (s .rPam) ∷ sizeTo 245760 (s .tLow) ∷ sizeTo 245760 (s .tUpp) ∷ leZ (s .tLow) (s .tUpp) ∷ leb (s .dT) 491520 ∷ []) (part 1) in
-    let total = each-of-all (fromTo 1 255 (sum (s .w) (s .ages)) ∷ fromTo 1 255 (sum (s .v) (s .ages)) ∷ fromTo 1 255 (weightOf s Kav) ∷ fromTo 1 255 (weightOf s Wg) ∷ []) (part 4) in
+    let total = each-of-all (fromTo 1 255 (sum (s .w) (s .ages)) ∷ fromTo 1 255 (sum (s .v) (s .ages)) ∷ fromTo 1 255 (weightOf s Kav) ∷ fromTo 1 255 (weightOf s Wg) ∷ []) (part 5) in
     record {
       percentThermometers = in-between (least 0);
       percent = each-side (λ side. Between 1 100 (s .percent side)) (in-between (least 1)) (in-between (least 2));
@@ -95,7 +116,7 @@ values-in-range s holds =
       tOrder = leZ-true (limit 3);
       dT = leb-true _ _ (limit 4);
       thermometer = λ i below. thermometer-in-range (s .thermometer i) (each-of-every thermometerTest thermometers i (part 2) below);
-      channel = λ c below. channel-in-range (s .channel c) (each-of-every channelTest channels c (part 3) below);
+      channel = λ c below. channel-in-range (s .channel c) (each-of-every channelTest channels c (part 3) below) (each-of-every pairsTest channels c (part 4) below);
       sumW = in-between (total 0);
       sumV = in-between (total 1);
       sumP = each-target (λ target. Between 1 255 (weightOf s target)) (in-between (total 2)) (in-between (total 3));

@@ -1,4 +1,4 @@
--- Document 01, "Opening a table". Refuses with 1 if the length isn't 741, 2 if a tag or length is wrong, 3 if a value or sum is
+-- Document 01, "Opening a table", and request W4. Refuses with 1 if the length isn't 1,404, 2 if a tag or length is wrong, 3 if a value or sum is
 -- outside its range. A refusal gives its number and no table.
 use Prim.Native.Nat.{ℕ}
 use mathlib.Core.Path.{_≡_}

@@ -1,10 +1,10 @@
--- Document 01, "The table": the range of each value and of each sum, in the table's order.
-use Prim.Native.Nat.{ℕ, _+_}
+-- Document 01, "The table", and request W4: the range of each value and of each sum, in the table's order.
+use Prim.Native.Nat.{ℕ, _+_, _-_}
 use mathlib.Core.List.{[], _∷_}
-use mathlib.Core.Bool.{Bool, _&&_}
-use lib.Dec.{leb}
+use mathlib.Core.Bool.{Bool, _&&_, _||_}
+use lib.Dec.{eqb, leb}
 use lib.IntN.{ℤ, pos, negℤ}
-use lib.Signed.{leZ}
+use lib.Signed.{leZ, ltZ}
 use Rattle.lists.specs.Count.{every, allHold}
 use Rattle.lists.specs.Sum.{sum}
 use Rattle.thermometer.specs.Reading.{fromTo, resistanceInside, coefficientsInside}
@@ -12,7 +12,8 @@ use Rattle.instrument.specs.declared.Side.the-variants.{Warm, Cold}
 use Rattle.instrument.specs.declared.Target.{Target}
 use Rattle.instrument.specs.declared.Target.the-variants.{Kav, Wg}
 use Rattle.table.specs.declared.Thermometer.{Thermometer}
-use Rattle.table.specs.Settings.{Channel, Settings}
+use Rattle.table.specs.declared.ShelfPair.{ShelfPair}
+use Rattle.table.specs.Settings.{pairs, Channel, Settings}
 use Rattle.instrument.specs.Instrument.{thermometers, channels, firstOf, sizeOf}
 
 -- from -m to m
@@ -34,11 +35,17 @@ thermometerLimitsInside s =
 abbrev pub thermometerInside : Thermometer → Bool
 thermometerInside t = coefficientsInside (t .r0) (t .alpha) (t .delta) (t .beta)
 
--- limits with low not above upp; b -4,096..4,096; rj and sl 0..16,384; TNL -8,192..8,192
+-- limits with low not above upp; b -4,096..4,096; rj and sl 0..16,384; TNL 0 (request W4)
 unfoldable pub channelInside : Channel → Bool
 channelInside c =
     allHold (leb (c .limits Warm .low) (c .limits Warm .upp) ∷ leb (c .limits Cold .low) (c .limits Cold .upp)
-    ∷ sizeTo 4096 (c .b) ∷ leb (c .rj) 16384 ∷ leb (c .sl) 16384 ∷ sizeTo 8192 (c .tnl) ∷ [])
+    ∷ sizeTo 4096 (c .b) ∷ leb (c .rj) 16384 ∷ leb (c .sl) 16384 ∷ sizeTo 0 (c .tnl) ∷ [])
+
+-- Request W4: shelf temperature -245,760..245,760, TNL -8,192..8,192; strictly rising: the first pair, or above the shelf temperature of
+-- the one before
+unfoldable pub pairInside : (ℕ → ShelfPair) → ℕ → Bool
+pairInside pair j =
+    allHold (sizeTo 245760 (pair j .shelf) ∷ sizeTo 8192 (pair j .tnl) ∷ (eqb j 0 || ltZ (pair (j - 1) .shelf) (pair j .shelf)) ∷ [])
 
 -- the sum of the p of a target
 abbrev pub weightOf : Settings → Target → ℕ
@@ -53,4 +60,5 @@ sumsInside s =
 unfoldable pub valuesInside : Settings → Bool
 valuesInside s =
     allHold (leastsInside s ∷ thermometerLimitsInside s
-    ∷ every (λ i. thermometerInside (s .thermometer i)) thermometers ∷ every (λ c. channelInside (s .channel c)) channels ∷ sumsInside s ∷ [])
+    ∷ every (λ i. thermometerInside (s .thermometer i)) thermometers ∷ every (λ c. channelInside (s .channel c)) channels
+    ∷ every (λ c. every (pairInside (s .channel c .pair)) pairs) channels ∷ sumsInside s ∷ [])

@@ -1,4 +1,4 @@
--- Document 01, "The table, 741 bytes": what a table's bytes say. `ages` is how many scans the window has; document 01 has 8.
+-- Document 01, "The table", and request W4: what a table's 1,404 bytes say. `ages` is how many scans the window has; document 01 has 8.
 use Prim.Native.Nat.{ℕ, _+_, _*_}
 use mathlib.Core.List.{List, [], _∷_}
 use lib.IntN.{ℤ}
@@ -11,10 +11,11 @@ use Rattle.instrument.specs.Instrument.{sidePlace, targetPlace}
 use Rattle.table.specs.declared.Limits.{Limits}
 use Rattle.table.specs.declared.Thermometer.{Thermometer}
 use Rattle.table.specs.declared.Corrections.{Corrections}
+use Rattle.table.specs.declared.ShelfPair.{ShelfPair}
 
--- the fields 0x10, 0x11 and 0x12
+-- the fields 0x10, 0x11, 0x12 and, by request W4, 0x14
 abbrev pub tableLayout : ℕ → List Field
-tableLayout ages = field 0x10 (2 * ages + 21) ∷ field 0x11 255 ∷ field 0x12 440 ∷ []
+tableLayout ages = field 0x10 (2 * ages + 21) ∷ field 0x11 255 ∷ field 0x12 440 ∷ field 0x14 660 ∷ []
 
 -- the bytes of one thermometer's row of 0x11, and of one channel's row of 0x12
 abbrev pub thermometerRow : ℕ
@@ -23,13 +24,24 @@ thermometerRow = 17
 abbrev pub channelRow : ℕ
 channelRow = 20
 
--- one channel's row of 0x12
+-- how many pairs of shelf temperature and TNL a channel has, the bytes of one, and of a channel's row of 0x14
+abbrev pub pairs : ℕ
+pairs = 5
+
+abbrev pub shelfPairSize : ℕ
+shelfPairSize = 6
+
+abbrev pub shelfPairsRow : ℕ
+shelfPairsRow = pairs * shelfPairSize
+
+-- one channel's row of 0x12, and its pairs in 0x14. TNL in 0x12 has to be 0: a scan's TNL comes from the pairs
 pub record Channel : Type 0 where
   pub limits : Side → Limits
   pub b : ℤ
   pub rj : ℕ
   pub sl : ℕ
   pub tnl : ℤ
+  pub pair : ℕ → ShelfPair
 
 pub record Settings : Type 0 where
   pub ages : ℕ
@@ -56,9 +68,19 @@ abbrev pub thermometerAt : List ℕ → ℕ → Thermometer
 thermometerAt table at =
     record { p = getD table at 0; r0 = u32At table (at + 1); alpha = u32At table (at + 5); delta = u32At table (at + 9); beta = u32At table (at + 13) }
 
-abbrev pub channelAt : List ℕ → ℕ → Channel
-channelAt table at =
-    record { limits = λ side. limitsAt table (at + 6 * sidePlace side); b = i16At table (at + 12); rj = u16At table (at + 14); sl = u16At table (at + 16); tnl = i16At table (at + 18) }
+abbrev pub shelfPairAt : List ℕ → ℕ → ShelfPair
+shelfPairAt table at = record { shelf = i32At table at; tnl = i16At table (at + 4) }
+
+-- the row of 0x12 at `at`, that of 0x14 at `first`
+abbrev pub channelAt : List ℕ → (at first : ℕ) → Channel
+channelAt table at first = record {
+  limits = λ side. limitsAt table (at + 6 * sidePlace side);
+  b = i16At table (at + 12);
+  rj = u16At table (at + 14);
+  sl = u16At table (at + 16);
+  tnl = i16At table (at + 18);
+  pair = λ j. shelfPairAt table (first + shelfPairSize * j);
+}
 
 abbrev pub settingsOf : ℕ → List ℕ → Settings
 settingsOf ages table =
@@ -75,9 +97,9 @@ settingsOf ages table =
       tUpp = i32At table (start + 2 * ages + 13);
       dT = u32At table (start + 2 * ages + 17);
       thermometer = λ i. thermometerAt table (valueStart (tableLayout ages) 1 + thermometerRow * i);
-      channel = λ c. channelAt table (valueStart (tableLayout ages) 2 + channelRow * c);
+      channel = λ c. channelAt table (valueStart (tableLayout ages) 2 + channelRow * c) (valueStart (tableLayout ages) 3 + shelfPairsRow * c);
     }
 
--- what a channel's temperatures are corrected by
+-- b, rj, sl and TNL of a channel's row of 0x12
 abbrev pub correctionsOf : Channel → Corrections
 correctionsOf c = record { b = c .b; rj = c .rj; sl = c .sl; tnl = c .tnl }

@@ -1,15 +1,17 @@
-// Document 01, "The table" and "Opening a table".
+// Document 01, "The table" and "Opening a table", and request W4.
 ghost use mathlib.Core.Path.{_≡_};
-ghost use Prim.Native.Nat.{_+_, _*_, _<_, _≤_};
+ghost use Prim.Native.Nat.{_+_, _*_, _-_, _<_, _≤_};
 ghost use lib.ListN.{length, getD, replicate};
-ghost use lib.Signed.{leZ};
+ghost use lib.Signed.{leZ, ltZ};
+ghost use lib.Dec.{eqb};
+ghost use mathlib.Core.Bool.{_||_};
 ghost use Rattle.lists.specs.Sum.{sum};
 ghost use Rattle.lists.specs.Count.{every};
 ghost use Rattle.lists.specs.Tests.{numberOf};
 ghost use Rattle.instrument.specs.Instrument.{thermometers, channels};
 ghost use Rattle.thermometer.specs.Reading.{fromTo};
-ghost use Rattle.table.specs.Settings.{settingsOf, correctionsOf};
-ghost use Rattle.table.specs.Ranges.{sizeTo, leastsInside, thermometerLimitsInside, thermometerInside, channelInside, sumsInside, valuesInside, weightOf};
+ghost use Rattle.table.specs.Settings.{pairs, settingsOf, correctionsOf};
+ghost use Rattle.table.specs.Ranges.{sizeTo, leastsInside, thermometerLimitsInside, thermometerInside, channelInside, pairInside, sumsInside, valuesInside, weightOf};
 ghost use Rattle.table.specs.Opening.{ages, tableSize, verdictOf, opening, tableBy};
 ghost use Rattle.table.specs.Steps.{rowCount, rowInside};
 use fields::HEAD;
@@ -24,9 +26,9 @@ use instrument::WG_THERMOMETERS;
 pub const AGES: usize = 8;
 
 // The layout, and where the value of each field starts.
-const TAGS: [u8; 3] = [0x10, 0x11, 0x12];
+const TAGS: [u8; 4] = [0x10, 0x11, 0x12, 0x14];
 
-const SIZES: [u16; 3] = [2 * AGES as u16 + 21, 255, 440];
+const SIZES: [u16; 4] = [2 * AGES as u16 + 21, 255, 440, 660];
 
 const SETTINGS_AT: usize = HEAD;
 
@@ -34,12 +36,21 @@ const THERMOMETERS_AT: usize = SETTINGS_AT + SIZES[0] as usize + HEAD;
 
 const CHANNELS_AT: usize = THERMOMETERS_AT + SIZES[1] as usize + HEAD;
 
-pub const TABLE_SIZE: usize = CHANNELS_AT + SIZES[2] as usize;
+const PAIRS_AT: usize = CHANNELS_AT + SIZES[2] as usize + HEAD;
+
+pub const TABLE_SIZE: usize = PAIRS_AT + SIZES[3] as usize;
 
 // The bytes of one thermometer's row and of one channel's.
 const THERMOMETER_ROW: usize = 17;
 
 const CHANNEL_ROW: usize = 20;
+
+// How many pairs of shelf temperature and TNL a channel has, the bytes of one, and of a channel's.
+pub const SHELF_PAIRS: usize = 5;
+
+const PAIR_SIZE: usize = 6;
+
+const PAIRS_ROW: usize = SHELF_PAIRS * PAIR_SIZE;
 
 // Where the values of the first field stand.
 const COUNT_WEIGHTS_AT: usize = SETTINGS_AT;
@@ -81,6 +92,7 @@ pub struct Opened {
 enum Rows {
     OfThermometers,
     OfChannels,
+    OfPairs,
 }
 
 // The limits of four counts, and how far a count may be from another.
@@ -99,11 +111,17 @@ pub struct Thermometer {
     pub beta: u32,
 }
 
-// What a channel's temperatures are corrected by.
+// b, rj, sl and TNL of a channel's row. TNL there has to be 0: a scan's TNL comes from the channel's pairs.
 pub struct Corrections {
     pub b: i64,
     pub rj: u16,
     pub sl: u16,
+    pub tnl: i64,
+}
+
+// A shelf temperature, and TNL there.
+pub struct ShelfPair {
+    pub shelf: i64,
     pub tnl: i64,
 }
 
@@ -302,9 +320,60 @@ fn channel_inside(table: &[u8], c: usize) -> bool
         size_to(4_096, k.b),
         k.rj <= 16_384,
         k.sl <= 16_384,
-        size_to(8_192, k.tnl),
+        size_to(0, k.tnl),
     ];
     lists::all_hold(&tests)
+}
+
+// ShelfPair j of channel c, both counted from 0.
+pub fn pair_of(table: &[u8], c: usize, j: usize) -> ShelfPair
+    requires { ⌜ (length (now table) ≡ tableSize) × (c < channels) × (j < pairs) ⌝ }
+    ensures { λ p. ⌜ p ≡ settingsOf ages (now (table .entry)) .channel c .pair j ⌝ }
+{
+    let at = PAIRS_AT + PAIRS_ROW * c + PAIR_SIZE * j;
+    ShelfPair {
+        shelf: fields::i32_at(table, at),
+        tnl: fields::i16_at(table, at + 4),
+    }
+}
+
+// Whether pair j of channel c is the first, or above the shelf temperature of the one before.
+fn shelf_rises(table: &[u8], c: usize, j: usize) -> bool
+    requires { ⌜ (length (now table) ≡ tableSize) × (c < channels) × (j < pairs) ⌝ }
+    ensures { λ b. ⌜ b ≡ (eqb j 0 || ltZ (settingsOf ages (now (table .entry)) .channel c .pair (j - 1) .shelf) (settingsOf ages (now (table .entry)) .channel c .pair j .shelf)) ⌝ }
+{
+    if j == 0 {
+        return true;
+    }
+    let before = pair_of(table, c, j - 1);
+    let pair = pair_of(table, c, j);
+    before.shelf < pair.shelf
+}
+
+fn pair_inside(table: &[u8], c: usize, j: usize) -> bool
+    requires { ⌜ (length (now table) ≡ tableSize) × (c < channels) × (j < pairs) ⌝ }
+    ensures { λ b. ⌜ b ≡ pairInside (settingsOf ages (now (table .entry)) .channel c .pair) j ⌝ }
+{
+    let pair = pair_of(table, c, j);
+    let tests = [
+        size_to(245_760, pair.shelf),
+        size_to(8_192, pair.tnl),
+        shelf_rises(table, c, j),
+    ];
+    lists::all_hold(&tests)
+}
+
+// Whether all pairs of channel c are in their ranges.
+fn pairs_inside(table: &[u8], c: usize) -> bool
+    requires { ⌜ (length (now table) ≡ tableSize) × (c < channels) ⌝ }
+    ensures { λ b. ⌜ b ≡ every (pairInside (settingsOf ages (now (table .entry)) .channel c .pair)) pairs ⌝ }
+{
+    for j in 0..SHELF_PAIRS {
+        if !pair_inside(table, c, j) {
+            return false;
+        }
+    }
+    true
 }
 
 fn row_count(rows: Rows) -> usize
@@ -313,6 +382,7 @@ fn row_count(rows: Rows) -> usize
     match rows {
         Rows::OfThermometers => THERMOMETERS,
         Rows::OfChannels => CHANNELS,
+        Rows::OfPairs => CHANNELS,
     }
 }
 
@@ -323,6 +393,7 @@ fn row_inside(table: &[u8], rows: Rows, i: usize) -> bool
     match rows {
         Rows::OfThermometers => thermometer_inside(table, i),
         Rows::OfChannels => channel_inside(table, i),
+        Rows::OfPairs => pairs_inside(table, i),
     }
 }
 
@@ -397,6 +468,7 @@ fn values_inside(table: &[u8]) -> bool
         thermometer_limits_inside(table),
         rows_inside(table, Rows::OfThermometers),
         rows_inside(table, Rows::OfChannels),
+        rows_inside(table, Rows::OfPairs),
         sums_inside(table),
     ];
     lists::all_hold(&tests)

@@ -17,6 +17,9 @@ rows-inside-requires c κs = search needs
 rows-inside-requires-2 : tie.Need-rows-inside-requires-2
 rows-inside-requires-2 c κs = search needs
 
+rows-inside-requires-3 : tie.Need-rows-inside-requires-3
+rows-inside-requires-3 c κs = search needs
+
 sums-inside-requires : tie.Need-sums-inside-requires
 sums-inside-requires c κs = search needs
 
@@ -31,9 +34,9 @@ unfolding valuesInside
 returns c =
     let sums = c .before .before in
     let rows = sums .before in
-    let limits = rows .before .before in
+    let limits = rows .before .before .before in
     c .all-hold .ensures
-    ∙ rw (limits .before .leasts-inside .ensures, limits .thermometer-limits-inside .ensures, rows .before .rows-inside .ensures, rows .rows-inside2 .ensures, sums .sums-inside .ensures)
+    ∙ rw (limits .before .leasts-inside .ensures, limits .thermometer-limits-inside .ensures, rows .before .before .rows-inside .ensures, rows .before .rows-inside2 .ensures, rows .rows-inside3 .ensures, sums .sums-inside .ensures)
 
 pub values-inside-spec : {M : Type 1} → statement M
 values-inside-spec =
@@ -43,6 +46,7 @@ values-inside-spec =
     thermometer-limits-inside-requires
     rows-inside-requires
     rows-inside-requires-2
+    rows-inside-requires-3
     sums-inside-requires
     slice-aggregate-all-hold
     all-hold-requires

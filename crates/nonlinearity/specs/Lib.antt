@@ -1,0 +1,2 @@
+pub mod Interpolation
+pub mod Steps
