@@ -12,7 +12,7 @@ use Rattle.integers.specs.Bounds.{Bounded, WithinHalf}
 use Rattle.integers.specs.Fractions.{Fraction, whole}
 use Rattle.integers.proofs.Ring.{_:+_, _:-_, _:*_, ring, #, v0, v1, v2, v3, v4, v5}
 use Rattle.integers.proofs.Certificate.{_:≤_, _:<_, hyp, _⊕_, _⊗_, le-by, lt-by}
-use Rattle.integers.proofs.Order.{below-trans, leZ-true, leZ-false, at-most-test}
+use Rattle.integers.proofs.Order.{at-most-equal, at-most-antisym, below-trans, leZ-true, leZ-false, at-most-test}
 use Rattle.integers.proofs.Fractions.{times-one}
 use Rattle.integers.proofs.Nearest.{r-within-half, r-of-multiple, within-half-at-most, within-half-at-least}
 use Rattle.table.specs.declared.ShelfPair.{ShelfPair}
@@ -83,56 +83,66 @@ module _ {pair : ℕ → ShelfPair} (h : ShelfPairsRange pair) where
     pub unrounded-above-last : pair (pairs - 1) .shelf <ℤ shelf → unroundedTnl pair shelf ≡ whole (pair (pairs - 1) .tnl)
     unrounded-above-last above = above-pair (pairs - 1) (omega arith) above ∙ above-last pair shelf
 
-    -- ---- the denominator is above 0, and TNL is in the pairs' range
-    record WithinRange (f : Fraction) : Type 0 where
+    -- ---- the denominator is above 0, and TNL lies between whole numbers that all five TNL are between
+    record Within (least most : ℤ) (f : Fraction) : Type 0 where
       above : pos 0 <ℤ f .den
-      low : (negℤ (pos 8192) *ℤ f .den) ≤ℤ f .num
-      high : f .num ≤ℤ (pos 8192 *ℤ f .den)
+      low : (least *ℤ f .den) ≤ℤ f .num
+      high : f .num ≤ℤ (most *ℤ f .den)
 
-    end-within : (j : ℕ) → j < pairs → WithinRange (whole (pair j .tnl))
-    end-within j below = record { above = ltZ-yes tt; low = h .tnl j below .low; high = h .tnl j below .high }
+    module _ {least most : ℤ} (least-of : (j : ℕ) → j < pairs → least ≤ℤ pair j .tnl) (most-of : (j : ℕ) → j < pairs → pair j .tnl ≤ℤ most) where
+      end-within : (j : ℕ) → j < pairs → Within least most (whole (pair j .tnl))
+      end-within j below = record { above = ltZ-yes tt; low = rw (times-one least) (least-of j below); high = rw (times-one most) (most-of j below) }
 
-    line-within : (j : ℕ) → j + 1 < pairs → pair j .shelf <ℤ shelf → shelf ≤ℤ pair (j + 1) .shelf → WithinRange (onLine (pair j) (pair (j + 1)) shelf)
-    line-within j below above up-to =
-        let low = h .tnl j (omega arith) in
-        let high = h .tnl (j + 1) below in
-        record {
-          above = line-above (pair j) (pair (j + 1)) above up-to;
-          low = line-at-least (pair j) (pair (j + 1)) above up-to (low .low) (high .low);
-          high = line-at-most (pair j) (pair (j + 1)) above up-to (low .high) (high .high);
-        }
+      line-within : (j : ℕ) → j + 1 < pairs → pair j .shelf <ℤ shelf → shelf ≤ℤ pair (j + 1) .shelf → Within least most (onLine (pair j) (pair (j + 1)) shelf)
+      line-within j below above up-to =
+          let before : j < pairs = omega arith in
+          record {
+            above = line-above (pair j) (pair (j + 1)) above up-to;
+            low = line-at-least (pair j) (pair (j + 1)) above up-to (least-of j before) (least-of (j + 1) below);
+            high = line-at-most (pair j) (pair (j + 1)) above up-to (most-of j before) (most-of (j + 1) below);
+          }
 
-    above-pair-within : (more j : ℕ) → j + more < pairs → pair j .shelf <ℤ shelf → WithinRange (abovePair pair j more shelf)
-    unfolding abovePair
-    above-pair-within zero j below above = end-within j (omega arith)
-    above-pair-within (suc more) j below above =
-        by-test (leZ shelf (pair (j + 1) .shelf)) (λ up-to. line-within j (omega arith) above (leZ-true up-to)) (λ past. above-pair-within more (j + 1) (omega arith) (leZ-false past)) refl
-      where
-        by-test : {line later : Fraction} (t : Bool) → (leZ shelf (pair (j + 1) .shelf) ≡ true → WithinRange line) → (leZ shelf (pair (j + 1) .shelf) ≡ false → WithinRange later)
-            → leZ shelf (pair (j + 1) .shelf) ≡ t → WithinRange (cond t line later)
-        by-test true line later is = line is
-        by-test false line later is = later is
+      above-pair-within : (more j : ℕ) → j + more < pairs → pair j .shelf <ℤ shelf → Within least most (abovePair pair j more shelf)
+      unfolding abovePair
+      above-pair-within zero j below above = end-within j (omega arith)
+      above-pair-within (suc more) j below above =
+          by-test (leZ shelf (pair (j + 1) .shelf)) (λ up-to. line-within j (omega arith) above (leZ-true up-to)) (λ past. above-pair-within more (j + 1) (omega arith) (leZ-false past)) refl
+        where
+          by-test : {line later : Fraction} (t : Bool) → (leZ shelf (pair (j + 1) .shelf) ≡ true → Within least most line) → (leZ shelf (pair (j + 1) .shelf) ≡ false → Within least most later)
+              → leZ shelf (pair (j + 1) .shelf) ≡ t → Within least most (cond t line later)
+          by-test true line later is = line is
+          by-test false line later is = later is
 
-    unrounded-within : WithinRange (unroundedTnl pair shelf)
-    unfolding unroundedTnl
-    unrounded-within = by-test (leZ shelf (pair 0 .shelf)) (λ past. above-pair-within (pairs - 1) 0 (omega arith) (leZ-false past)) refl
-      where
-        by-test : {later : Fraction} (t : Bool) → (leZ shelf (pair 0 .shelf) ≡ false → WithinRange later) → leZ shelf (pair 0 .shelf) ≡ t → WithinRange (cond t (whole (pair 0 .tnl)) later)
-        by-test true later is = end-within 0 (omega arith)
-        by-test false later is = later is
+      unrounded-within : Within least most (unroundedTnl pair shelf)
+      unfolding unroundedTnl
+      unrounded-within = by-test (leZ shelf (pair 0 .shelf)) (λ past. above-pair-within (pairs - 1) 0 (omega arith) (leZ-false past)) refl
+        where
+          by-test : {later : Fraction} (t : Bool) → (leZ shelf (pair 0 .shelf) ≡ false → Within least most later) → leZ shelf (pair 0 .shelf) ≡ t → Within least most (cond t (whole (pair 0 .tnl)) later)
+          by-test true later is = end-within 0 (omega arith)
+          by-test false later is = later is
+
+    in-range : Within (negℤ (pos 8192)) (pos 8192) (unroundedTnl pair shelf)
+    in-range = unrounded-within (λ j below. h .tnl j below .low) (λ j below. h .tnl j below .high)
 
     pub unrounded-above : pos 0 <ℤ unroundedTnl pair shelf .den
-    unrounded-above = unrounded-within .above
+    unrounded-above = in-range .above
 
     pub tnl-within-half : WithinHalf (unroundedTnl pair shelf .num) (unroundedTnl pair shelf .den) (tnlOf pair shelf)
     unfolding tnlOf
     tnl-within-half = r-within-half (unroundedTnl pair shelf .num) unrounded-above
 
+    tnl-from-to : {least most : ℤ} → Within least most (unroundedTnl pair shelf) → (least ≤ℤ tnlOf pair shelf) × (tnlOf pair shelf ≤ℤ most)
+    tnl-from-to {least} {most} within =
+        (within-half-at-least unrounded-above tnl-within-half least (within .low), within-half-at-most unrounded-above tnl-within-half most (within .high))
+
     pub tnl-bounded : Bounded (tnlOf pair shelf) (pos 8192)
-    tnl-bounded = record {
-      low = within-half-at-least unrounded-above tnl-within-half (negℤ (pos 8192)) (unrounded-within .low);
-      high = within-half-at-most unrounded-above tnl-within-half (pos 8192) (unrounded-within .high);
-    }
+    tnl-bounded = let ends = tnl-from-to in-range in record { low = ends .0; high = ends .1 }
+
+    -- five pairs with one TNL have it at every shelf temperature
+    pub tnl-level : (tnl : ℤ) → ((j : ℕ) → j < pairs → pair j .tnl ≡ tnl) → tnlOf pair shelf ≡ tnl
+    tnl-level tnl level =
+        let ends = tnl-from-to (unrounded-within (λ j below. at-most-equal (sym (level j below))) (λ j below. at-most-equal (level j below))) in
+        at-most-antisym (ends .1) (ends .0)
 
     -- ---- below the first pair or at it, above the last one, between two
     pub tnl-up-to-first : shelf ≤ℤ pair 0 .shelf → tnlOf pair shelf ≡ pair 0 .tnl
