@@ -206,7 +206,7 @@ mod tests {
     #[test]
     fn opening_neighbours_agrees_with_the_second_implementation() {
         // Seed 0 is the bench table.
-        for seed in 0..12 {
+        for seed in 0..20 {
             against::all_table_neighbours(seed, answer, &mut Counters::new()).unwrap();
         }
     }

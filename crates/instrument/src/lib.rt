@@ -17,6 +17,13 @@ pub const WG_THERMOMETERS: usize = THERMOMETERS - KAV_THERMOMETERS;
 
 pub const KAV_CHANNELS: usize = 15;
 
+// The first channel on the V shelf, on W and on G, counted from 0; those before are on KKA.
+const FIRST_V: usize = 2;
+
+const FIRST_W: usize = 15;
+
+const FIRST_G: usize = 16;
+
 // Warm counts or cold counts.
 pub enum Side {
     Warm,
@@ -64,13 +71,6 @@ pub fn target_of(c: usize) -> Target
     }
     Target::Wg
 }
-
-// The first channel that is on the V shelf, on W and on G; those before are on KKA.
-const FIRST_V: usize = 2;
-
-const FIRST_W: usize = 15;
-
-const FIRST_G: usize = 16;
 
 // The shelf of channel c.
 pub fn shelf_of(c: usize) -> Shelf

@@ -20,7 +20,7 @@ fn on_line(low: ShelfPair, high: ShelfPair, shelf: i64) -> i64
     integers::round(weighted, high.shelf - low.shelf)
 }
 
-// Channel c, counted from 0. Up to the first pair and above the last the end value.
+// TNL of channel c, counted from 0, at this shelf temperature. Up to the first pair and above the last it is the end value.
 pub fn tnl_of(table: &[u8], c: usize, shelf: i64) -> i64
     requires { ⌜ AcceptedTable (now table) × (c < channels) ⌝ }
     ensures { λ t. ⌜ t ≡ tnlOf (settingsOf ages (now (table .entry)) .channel c .pair) shelf ⌝ }

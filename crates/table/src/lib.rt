@@ -325,7 +325,7 @@ fn channel_inside(table: &[u8], c: usize) -> bool
     lists::all_hold(&tests)
 }
 
-// ShelfPair j of channel c, both counted from 0.
+// Pair j of channel c, both counted from 0.
 pub fn pair_of(table: &[u8], c: usize, j: usize) -> ShelfPair
     requires { ⌜ (length (now table) ≡ tableSize) × (c < channels) × (j < pairs) ⌝ }
     ensures { λ p. ⌜ p ≡ settingsOf ages (now (table .entry)) .channel c .pair j ⌝ }
