@@ -21,16 +21,14 @@ use Rattle.instrument.specs.declared.Side.the-variants.{Warm, Cold}
 use Rattle.instrument.specs.declared.Target.{Target}
 use Rattle.instrument.specs.declared.Target.the-variants.{Kav, Wg}
 use Rattle.table.specs.declared.Corrections.{Corrections}
-use Rattle.table.specs.Settings.{correctionsOf}
-use Rattle.instrument.specs.Instrument.{thermometers, channels, firstOf, sizeOf, targetOf, positions, shelfOf}
-use Rattle.instrument.specs.declared.Shelf.{Shelf}
-use Rattle.instrument.specs.declared.Shelf.the-variants.{KkaShelf, VShelf, WShelf, GShelf}
-use Rattle.integers.specs.Rounding.{floor, r}
-use Rattle.nonlinearity.specs.Interpolation.{abovePair, unroundedTnl, tnlOf}
+use Rattle.table.specs.Settings.{pairs, correctionsOf}
+use Rattle.instrument.specs.Instrument.{thermometers, channels, firstOf, sizeOf, targetOf, positions}
+use Rattle.nonlinearity.proofs.InterpolationLaws.{tnl-level}
 use Rattle.table.specs.Ranges.{leastsInside, thermometerLimitsInside, channelInside, pairInside, sumsInside, valuesInside}
 use Rattle.table.specs.Opening.{opening, AcceptedTable}
+use Rattle.table.proofs.OpeningLaws.{accepted-ranges}
 use Rattle.acceptance.specs.declared.Scan.{Scan}
-use Rattle.record.specs.Record.{instrument, sideValue, channelPart, earthCounts, earthPart, earthSize, shelfTemperatures, shelfTemperature}
+use Rattle.record.specs.Record.{instrument, sideValue, channelPart, earthCounts, earthPart, earthSize}
 use Rattle.acceptance.specs.Accepted.{readingAt, kelvin, inLimits, kelvins, passedLimits, acceptedThermometers, acceptedCounts, AcceptedSamples, acceptedSamples}
 use Rattle.acceptance.specs.Kept.{keptScan}
 use Rattle.samples.specs.Good.{Sample, differs, good, chosenTo, goodSamples, atLeast}
@@ -41,7 +39,7 @@ use Rattle.window.specs.Ages.{noScan}
 use Rattle.window.specs.Sums.{weightSum, valueSum, thermometerWeights, thermometerSum, meansFrom, meansOf}
 use Rattle.lists.proofs.Stands.{cell-stands}
 use Rattle.fields.proofs.FieldBytes.{u16-that-stands}
-use Rattle.promise.specs.Moments.{meansAt, tnlAt}
+use Rattle.promise.specs.Moments.{meansAt, shelfAt, tnlAt}
 use Rattle.calibrator.specs.Feeding.{keptBy}
 use Rattle.bench.specs.Bench.{benchTable, instrumentBytes, perChannel, benchScan, benchSettings, benchMoment}
 use Rattle.promise.proofs.RollLaws.{scanOfAge}
@@ -61,10 +59,12 @@ pub bench-row : (c : ℕ) → c < channels → correctionsOf (benchSettings .cha
 unfolding benchTable tabulate
 bench-row = each-of-same (λ c. correctionsOf (benchSettings .channel c)) (λ c. benchRow) channels refl
 
--- at shelf temperature 0
-tnl-at-zero : (c : ℕ) → c < channels → tnlOf (benchSettings .channel c .pair) (pos 0) ≡ pos 400
-unfolding benchTable tabulate tnlOf unroundedTnl abovePair r floor
-tnl-at-zero = each-of-same (λ c. tnlOf (benchSettings .channel c .pair) (pos 0)) (λ c. pos 400) channels refl
+-- and of each pair, so that TNL is 400 at every shelf temperature
+level-pairs : (c : ℕ) → c < channels → (j : ℕ) → j < pairs → benchSettings .channel c .pair j .tnl ≡ pos 400
+unfolding benchTable tabulate
+level-pairs c below =
+    each-of-same (λ j. benchSettings .channel c .pair j .tnl) (λ j. pos 400) pairs
+    (each-of-same (λ c. tabulate (λ j. benchSettings .channel c .pair j .tnl) pairs) (λ c. tabulate (λ j. pos 400) pairs) channels refl c below)
 
 -- ---- a scan with the instrument counts of the bench scan
 
@@ -158,17 +158,10 @@ module _ (earth : ℕ) where
       means-at-is benchSettings (benchMoment earth) c below ∙
       ap (λ (kept : Scan). meansOf benchSettings (λ k. cond (eqb (7 + k) 7) kept noScan) c) bench-kept ∙ means-of-kept c below
 
-  -- ---- the shelf temperatures
-
-  bench-shelf : (shelf : Shelf) → shelfTemperature (shelfTemperatures (benchScan earth)) shelf ≡ pos 0
-  unfolding benchScan
-  bench-shelf KkaShelf = refl
-  bench-shelf VShelf = refl
-  bench-shelf WShelf = refl
-  bench-shelf GShelf = refl
+  -- ---- TNL of each channel
 
   pub bench-tnl : (c : ℕ) → c < channels → tnlAt benchSettings (benchMoment earth) c ≡ pos 400
-  bench-tnl c below = ap (tnlOf (benchSettings .channel c .pair)) (bench-shelf (shelfOf c)) ∙ tnl-at-zero c below
+  bench-tnl c below = tnl-level (accepted-ranges bench-table .channel c below .pair) (shelfAt benchSettings (benchMoment earth) c) (pos 400) (level-pairs c below)
 
   -- ---- the earth counts
 

@@ -64,6 +64,12 @@ module _ (pair : ℕ → ShelfPair) (shelf : ℤ) where
 abbrev rounded : Fraction → ℤ
 rounded f = r (f .num) (f .den)
 
+-- what holds of either value, each where its test leads there, holds of the one that is taken
+of-the-taken : (Holds : Fraction → Type 0) {test : Bool} {first second : Fraction} → (test ≡ true → Holds first) → (test ≡ false → Holds second) → (t : Bool) → test ≡ t
+    → Holds (cond t first second)
+of-the-taken Holds first second true is = first is
+of-the-taken Holds first second false is = second is
+
 -- ---- pairs in their ranges
 module _ {pair : ℕ → ShelfPair} (h : ShelfPairsRange pair) where
   module _ (shelf : ℤ) where
@@ -106,20 +112,11 @@ module _ {pair : ℕ → ShelfPair} (h : ShelfPairsRange pair) where
       unfolding abovePair
       above-pair-within zero j below above = end-within j (omega arith)
       above-pair-within (suc more) j below above =
-          by-test (leZ shelf (pair (j + 1) .shelf)) (λ up-to. line-within j (omega arith) above (leZ-true up-to)) (λ past. above-pair-within more (j + 1) (omega arith) (leZ-false past)) refl
-        where
-          by-test : {line later : Fraction} (t : Bool) → (leZ shelf (pair (j + 1) .shelf) ≡ true → Within least most line) → (leZ shelf (pair (j + 1) .shelf) ≡ false → Within least most later)
-              → leZ shelf (pair (j + 1) .shelf) ≡ t → Within least most (cond t line later)
-          by-test true line later is = line is
-          by-test false line later is = later is
+          of-the-taken (Within least most) (λ up-to. line-within j (omega arith) above (leZ-true up-to)) (λ past. above-pair-within more (j + 1) (omega arith) (leZ-false past)) _ refl
 
       unrounded-within : Within least most (unroundedTnl pair shelf)
       unfolding unroundedTnl
-      unrounded-within = by-test (leZ shelf (pair 0 .shelf)) (λ past. above-pair-within (pairs - 1) 0 (omega arith) (leZ-false past)) refl
-        where
-          by-test : {later : Fraction} (t : Bool) → (leZ shelf (pair 0 .shelf) ≡ false → Within least most later) → leZ shelf (pair 0 .shelf) ≡ t → Within least most (cond t (whole (pair 0 .tnl)) later)
-          by-test true later is = end-within 0 (omega arith)
-          by-test false later is = later is
+      unrounded-within = of-the-taken (Within least most) (λ up-to. end-within 0 (omega arith)) (λ past. above-pair-within (pairs - 1) 0 (omega arith) (leZ-false past)) _ refl
 
     in-range : Within (negℤ (pos 8192)) (pos 8192) (unroundedTnl pair shelf)
     in-range = unrounded-within (λ j below. h .tnl j below .low) (λ j below. h .tnl j below .high)

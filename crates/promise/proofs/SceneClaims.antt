@@ -221,14 +221,14 @@ module _ (s : Settings) (m : Moment) (c i : ℕ) where
     delivered-rules Guard e d = absurd (false≢true d)
 
 -- ---- before scan bias: T is at most 21/8 units from E
-module _ (s : Settings) (m : Moment) (c i : ℕ) (range : SettingsRange s) (below : c < channels) where
-  weights-above : ByTheRules s m c i → pos 0 <ℤ pos (meansAt s m c .weights)
-  weights-above h = natural-below (flag-zero-weights-above range (targetOf c) (meansAt s m c) (rules-flag-zero s m c i h))
-
+module _ (s : Settings) (m : Moment) (c : ℕ) (range : SettingsRange s) (below : c < channels) where
   tnl-above : pos 0 <ℤ unroundedTnlAt s m c .den
   tnl-above = unrounded-above (range .channel c below .pair) (shelfAt s m c)
 
-  temperature-near : ByTheRules s m c i → Distance (pos 21 /ᶠ pos 8) (tAt s m c i) (eAt s m c i)
+  weights-above : {i : ℕ} → ByTheRules s m c i → pos 0 <ℤ pos (meansAt s m c .weights)
+  weights-above {i} h = natural-below (flag-zero-weights-above range (targetOf c) (meansAt s m c) (rules-flag-zero s m c i h))
+
+  temperature-near : {i : ℕ} → ByTheRules s m c i → Distance (pos 21 /ᶠ pos 8) (tAt s m c i) (eAt s m c i)
   temperature-near h =
       let sums = meansAt s m c in
       let pairs = range .channel c below .pair in
@@ -236,7 +236,7 @@ module _ (s : Settings) (m : Moment) (c i : ℕ) (range : SettingsRange s) (belo
       (tnl-bounded pairs (shelfAt s m c)) (weights-above h) tnl-above (tnl-within-half pairs (shelfAt s m c))
 
 pub distance-before-bias : DistanceBeforeBias
-distance-before-bias f i = temperature-near (settingsOfFed f) (momentOfFed f) (f .channel) i (accepted-ranges (f .tableAccepted)) (f .isChannel)
+distance-before-bias f i = temperature-near (settingsOfFed f) (momentOfFed f) (f .channel) (accepted-ranges (f .tableAccepted)) (f .isChannel)
 
 -- ---- and the product's bytes
 module _ (s : Settings) (bias : List ℕ) (m : Moment) (c i : ℕ) (range : SettingsRange s) (file : AcceptedBias bias) (below : c < channels) (inside : i < positions) (rest : List ℕ) where
@@ -292,7 +292,7 @@ module _ (s : Settings) (bias : List ℕ) (m : Moment) (c i : ℕ) (range : Sett
       (units-of-kelvin (natAbs (deliver (temperatureOf ofChannel sceneCount))) (within .low) (within .high))
 
   near-e : (h : ByTheRules s m c i) → Near (pos 71 /ᶠ pos 16) (unitsAt product c i) (biasedEAt s m c i bias)
-  near-e h = near-of-distance (exactly h) (biased-distance (c0In (biasPart bias c) i) (e-bounded pair) (ltZ-yes tt) (temperature-near s m c i range below h))
+  near-e h = near-of-distance (exactly h) (biased-distance (c0In (biasPart bias c) i) (e-bounded pair) (ltZ-yes tt) (temperature-near s m c range below h))
 
   -- E by the equations
   rise-above : (h : ByTheRules s m c i) → pos 0 <ℤ (unroundedTw (pos (sums .weighted)) (pos (sums .weights)) (s .channel c .b) -ᶠ whole (Tc (s .channel c))) .num
@@ -304,14 +304,14 @@ module _ (s : Settings) (bias : List ℕ) (m : Moment) (c i : ℕ) (range : Sett
       ((# 0 :< v1) ∷ (# 873062 :* v1 :≤ v0) ∷ (opp (# 4096) :≤ v2) ∷ (v3 :≤ # 43934) ∷ [])
       (# 0) ((v0 :* # 1 :+ v2 :* v1) :* # 1 :- v3 :* (v1 :* # 1))
       (hyp 0 ⊕ nat 825032 ⊗ hyp 1 ⊕ hyp 2 ⊕ hyp 3 ⊕ hyp 4 ⊕ hyp 1 ⊗ hyp 3 ⊕ hyp 1 ⊗ hyp 4)
-      tt (weights-above s m c i range below h) (natural-at-most least) (row .b .low) (natural-at-most cold)
+      tt (weights-above s m c range below h) (natural-at-most least) (row .b .low) (natural-at-most cold)
 
   by-equations : (h : ByTheRules s m c i) → Equal (equationsAt s m c i) (eAt s m c i)
   by-equations h =
       let z = rules-flag-zero s m c i h in
       corrected-same (pos (sums .aw)) (pos (sums .ac)) (pos sceneCount) (Tc (s .channel c)) (unroundedTw (pos (sums .weighted)) (pos (sums .weights)) (s .channel c .b)) (unroundedTnlAt s m c)
       (natural-below (flag-zero-warm-above range (targetOf c) sums z)) (natural-below (flag-zero-cold-above range (targetOf c) sums z)) (h .warmAboveCold)
-      (product-above (weights-above s m c i range below h) one-above) (rise-above h) (tnl-above s m c i range below)
+      (product-above (weights-above s m c range below h) one-above) (rise-above h) (tnl-above s m c range below)
 
   pub scene-claim : SceneClaim s bias m (productAt s m (byBias bias) ++ rest) c i
   scene-claim = record { rules = rules; delivers = delivers; exact = λ h. exactly (rules h); distance = λ h. near-e (rules h); equations = λ h. by-equations (rules h) }
