@@ -14,8 +14,8 @@ program functions
     integer(sounder_byte) :: state(sounder_state_bytes), product(sounder_product_bytes)
     integer(int32), allocatable :: record_lengths(:), product_lengths(:)
     integer, allocatable :: answers(:)
-    integer :: answer, again, refused, count, i, left
-    integer(int32) :: t
+    integer :: answer, again, refused, beside, count, i, left, from
+    integer(int32) :: t, units, found
 
     if (command_argument_count() /= 3) error stop 'usage: functions table.bin bias.bin scans.bin'
     call read_file(1, table)
@@ -71,6 +71,26 @@ program functions
         if (answers(i) == 0) then
             call print_product(products((i - 1) * sounder_product_bytes + 1:i * sounder_product_bytes))
         end if
+    end do
+
+    ! The count behind a temperature: a state that is too short, a channel that is not there, no scan accepted.
+    bias(4:) = 0
+    again = sounder_fresh(table, bias, state)
+    found = 0
+    answer = sounder_count_behind(state(2:), 23, 1, found)
+    refused = sounder_count_behind(state, 23, 1, found)
+    again = sounder_count_behind(state, 1, 1, found)
+    print '(a,4(1x,i0))', 'count_behind', answer, refused, again, found
+    ! Scan by scan: with a bias file of zeros a scene is T / 4096 kelvin. So the count behind the T of channel 1 at
+    ! position 1 is the earth count there, and no count has one unit more. A channel with a flag is answered with 12,
+    ! and a refused record leaves the answers as they were.
+    do i = 1, count
+        from = (i - 1) * sounder_record_bytes
+        again = sounder_feed(state, records(from + 1:from + record_lengths(i)), product)
+        units = nint(4096 * sounder_kelvin(product(scenes_at:scenes_at + 3)))
+        answer = sounder_count_behind(state, 1, units, found)
+        beside = sounder_count_behind(state, 1, units + 1, found)
+        print '(a,3(1x,i0))', 'count_behind', answer, found, beside
     end do
     deallocate (table, bias, records, products, record_lengths, product_lengths, answers)
 

@@ -8,30 +8,32 @@
 ! given, which Fortran asks of arguments anyway.
 !
 ! Bytes are integer(sounder_byte), so that a byte from 128 to 255 is a number from -128 to -1. Answers are
-! default integers from 0 to 255, also in lists, so that 254 is sounder_no_state and 255 is sounder_not_fed.
-! sounder_number and sounder_kelvin read the numbers of a format. Offsets in docs/RULES.md count from 0: what
-! stands at 35 there is element 36 of an array here.
+! default integers from 0 to 255, also in lists, so that 253 is sounder_no_count, 254 is sounder_no_state and 255
+! is sounder_not_fed. sounder_number and sounder_kelvin read the numbers of a format. Offsets in docs/RULES.md
+! count from 0: what stands at 35 there is element 36 of an array here.
 module sounder
     use, intrinsic :: iso_c_binding, only: c_float, c_int8_t, c_int16_t, c_int32_t, c_int64_t, c_size_t
     implicit none
     private
 
     public :: sounder_open, sounder_open_bias, sounder_thermometer, sounder_feed_all
-    public :: sounder_state_size, sounder_fresh, sounder_feed, sounder_version
+    public :: sounder_state_size, sounder_fresh, sounder_feed, sounder_count_behind, sounder_version
     public :: sounder_number, sounder_kelvin
 
     ! The kind of a byte.
     integer, parameter, public :: sounder_byte = c_int8_t
 
     ! The version of this module: 10000 * major + 100 * minor + patch.
-    integer, parameter, public :: sounder_version_number = 40000
+    integer, parameter, public :: sounder_version_number = 50000
 
     integer, parameter, public :: sounder_table_bytes = 1404
     integer, parameter, public :: sounder_bias_bytes = 8451
     integer, parameter, public :: sounder_record_bytes = 4648
     integer, parameter, public :: sounder_product_bytes = 8706
     ! What sounder_state_size gives.
-    integer, parameter, public :: sounder_state_bytes = 11777
+    integer, parameter, public :: sounder_state_bytes = 12576
+    ! The answer of sounder_count_behind where no count fits.
+    integer, parameter, public :: sounder_no_count = 253
     ! The answer where the bytes are no state, or where a state has no room.
     integer, parameter, public :: sounder_no_state = 254
     ! In answers of sounder_feed_all: a feed that was not fed, since a length or bytes were missing.
@@ -106,6 +108,16 @@ module sounder
             integer(c_size_t), value :: state_len, record_len, buffer_len
             integer(c_int8_t) :: answer
         end function c_feed
+
+        function c_count_behind(state, state_len, channel, wanted, count) &
+                bind(c, name='sounder_count_behind') result(answer)
+            import :: c_int8_t, c_int16_t, c_int32_t, c_size_t
+            integer(c_int8_t), intent(in) :: state(*)
+            integer(c_size_t), value :: state_len
+            integer(c_int32_t), value :: channel, wanted
+            integer(c_int16_t), intent(inout) :: count
+            integer(c_int8_t) :: answer
+        end function c_count_behind
     end interface
 
 contains
@@ -181,6 +193,22 @@ contains
         answer = unsigned(c_feed(state, size(state, kind=c_size_t), record, size(record, kind=c_size_t), &
             buffer, size(buffer, kind=c_size_t)))
     end function sounder_feed
+
+    ! The count behind a temperature, by the means, the flags and the shelf temperatures of the last accepted scan: 0
+    ! and, in count, the count from 0 to 65,535 whose scene in this channel, counted from 1, is delivered with just
+    ! the temperature wanted, in units of 1/4096 K before scan bias; or sounder_no_state, then 11 (channel isn't 1 to
+    ! 22), 12 (no scan was accepted, or the channel's flag in the last one isn't 0), sounder_no_count where no count
+    ! fits, and count stays as it was. A channel below 0 is answered with 11, and no count fits a wanted below 0.
+    function sounder_count_behind(state, channel, wanted, count) result(answer)
+        integer(c_int8_t), intent(in), contiguous :: state(:)
+        integer(c_int32_t), intent(in) :: channel, wanted
+        integer(c_int32_t), intent(inout) :: count
+        integer :: answer
+        integer(c_int16_t) :: bits
+        bits = 0
+        answer = unsigned(c_count_behind(state, size(state, kind=c_size_t), channel, wanted, bits))
+        if (answer == 0) count = iand(int(bits, c_int32_t), 65535_c_int32_t)
+    end function sounder_count_behind
 
     ! The number that one to four bytes stand for, the most significant first and without a sign: a flag, a
     ! count (u16) or a scan number (u32), for instance sounder_number(product(4:7)).

@@ -4,7 +4,7 @@
  *
  * docs/RULES.md has the formats of tables, bias files, scan records, products and states and all rules. Every
  * function answers every input, keeps nothing between calls and allocates nothing, so that any number of
- * threads may call it, each with buffers of its own; a call takes less than 64 KiB of stack. No function writes
+ * threads may call it, each with buffers of its own; a call takes less than 72 KiB of stack. No function writes
  * past what is named here.
  *
  * A pointer and the count behind it are one argument; the pointer may be null where the count is 0. What is
@@ -21,8 +21,8 @@ extern "C" {
 #endif
 
 /* The version of this header, as text and as the number 10000 * major + 100 * minor + patch. */
-#define SOUNDER_VERSION "4.0.0"
-#define SOUNDER_VERSION_NUMBER 40000
+#define SOUNDER_VERSION "5.0.0"
+#define SOUNDER_VERSION_NUMBER 50000
 
 enum {
     SOUNDER_TABLE_BYTES = 1404,
@@ -30,7 +30,9 @@ enum {
     SOUNDER_RECORD_BYTES = 4648,
     SOUNDER_PRODUCT_BYTES = 8706,
     /* What sounder_state_size gives. */
-    SOUNDER_STATE_BYTES = 11777,
+    SOUNDER_STATE_BYTES = 12576,
+    /* The answer of sounder_count_behind where no count fits. */
+    SOUNDER_NO_COUNT = 253,
     /* The answer where the bytes are no state, or where a state has no room. */
     SOUNDER_NO_STATE = 254,
     /* In answers: a feed that was not fed, since a length or bytes were missing. */
@@ -77,16 +79,16 @@ uint8_t sounder_feed_all(const uint8_t *table, size_t table_len,
 
 /* ---- Scan by scan: the calibrator is a state in the caller's memory.
  *
- * A state is 11,777 bytes, big-endian, with a magic number and a version at its front; docs/RULES.md has its
+ * A state is 12,576 bytes, big-endian, with a magic number and a version at its front; docs/RULES.md has its
  * layout. It may be copied, saved, and read on another machine: a run over a list of records through states
- * gives what one call of sounder_feed_all gives. Bytes behind the 11,777 are not looked at and stay as they
+ * gives what one call of sounder_feed_all gives. Bytes behind the 12,576 are not looked at and stay as they
  * were. */
 
 /* How many bytes a state has: SOUNDER_STATE_BYTES. */
 size_t sounder_state_size(void);
 
 /* Opens the table and the bias file and writes the state of a fresh calibrator: 0; or the table's refusal (1 to 3),
- * then the bias file's (1 to 3), then 254 (SOUNDER_NO_STATE) where state_len is below 11,777. A refusal writes
+ * then the bias file's (1 to 3), then 254 (SOUNDER_NO_STATE) where state_len is below 12,576. A refusal writes
  * nothing. The table and the bias file are in the state, and are not needed again. */
 uint8_t sounder_fresh(const uint8_t *table, size_t table_len,
                       const uint8_t *bias, size_t bias_len,
@@ -94,10 +96,19 @@ uint8_t sounder_fresh(const uint8_t *table, size_t table_len,
 
 /* Feeds one scan record to the calibrator of a state: 0, and the product stands in the first 8,706 bytes of
  * buffer and the calibrator after it in state; or 254 (SOUNDER_NO_STATE) where the bytes are no state: fewer
- * than 11,777, a wrong front, a table or bias file that would be refused, a value out of its range; then 4 to 7 as
+ * than 12,576, a wrong front, a table or bias file that would be refused, a value out of its range; then 4 to 7 as
  * in sounder_feed_all. A refusal writes nothing. */
 uint8_t sounder_feed(uint8_t *state, size_t state_len, const uint8_t *record, size_t record_len,
                      uint8_t *buffer, size_t buffer_len);
+
+/* The count behind a temperature, by the means, the flags and the shelf temperatures of the last accepted scan: 0
+ * and, in *count, the count from 0 to 65,535 whose scene in this channel, counted from 1, is delivered with just the
+ * temperature wanted, in units of 1/4096 K before scan bias; or 254 (SOUNDER_NO_STATE) where the bytes are no state,
+ * as in sounder_feed; then 11 (channel isn't 1 to 22), 12 (no scan was accepted, or the channel's flag in the last
+ * one isn't 0), 253 (SOUNDER_NO_COUNT) where no count fits, and *count stays as it was. Of two delivered counts the
+ * higher has the higher temperature, so that no second count fits. count is not null. The state is only read. */
+uint8_t sounder_count_behind(const uint8_t *state, size_t state_len, uint32_t channel, uint32_t wanted,
+                             uint16_t *count);
 
 #ifdef __cplusplus
 }

@@ -11,6 +11,10 @@ use crate::check::calls::checked_call;
 use crate::check::counters::Counters;
 use crate::check::listings::{checked_listing, checked_stream};
 use crate::check::lists::checked_outcomes;
+use crate::check::lookups::{
+    checked_channels, checked_lookup_run, checked_lookups, checked_probe, looked_up, Answered,
+    LookupRun,
+};
 use crate::check::numbers::checked_division;
 use crate::check::one_shelf::checked_one_shelf;
 use crate::check::outcomes::{outcomes, Outcome};
@@ -21,7 +25,7 @@ use crate::check::states::{
 };
 use crate::check::tables::checked_answer;
 use crate::check::thermometers::checked_thermometer;
-use crate::check::twins::checked_twin;
+use crate::check::twins::{checked_twin, checked_twin_lookups};
 use crate::check::zeros::checked_zeros;
 use crate::generator::laid_out::laid_out;
 use crate::generator::listings::{listing_input, ListingInput};
@@ -406,13 +410,136 @@ where
     same_run(&other, &at_once(&list))
 }
 
+/// What lookups leave at a state.
+fn same_answers(
+    about: &str,
+    state: &[u8],
+    answered: &Answered,
+    other: impl Fn(&[u8], u32, u32, &mut u16) -> u8,
+) -> Result<(), String> {
+    for (question, this) in answered {
+        let left = looked_up(state, question, &other);
+        same(format!("{about}, {question:?}"), left, *this)?;
+    }
+    Ok(())
+}
+
+/// A run with lookups between its feeds: each answer, the whole state after each feed, and what each lookup leaves.
+fn same_lookup_run<F, G>(
+    about: &str,
+    run: &LookupRun,
+    functions: &StateFunctions<F, G>,
+    other: impl Fn(&[u8], u32, u32, &mut u16) -> u8,
+) -> Result<(), String>
+where
+    F: Fn(&[u8], &[u8], &mut [u8]) -> u8,
+    G: Fn(&mut [u8], &[u8], &mut [u8]) -> u8,
+{
+    let mut memory = vec![7; 12_576];
+    same(
+        about,
+        (functions.fresh)(&run.table, &run.bias, &mut memory),
+        0,
+    )?;
+    for (index, step) in run.steps.iter().enumerate() {
+        let about = format!("{about}, step {index}");
+        if let Some(feed) = &step.feed {
+            let mut buffer = feed.buffer.clone();
+            let answer = (functions.feed)(&mut memory, &feed.record, &mut buffer);
+            same(&about, answer, step.answer)?;
+        }
+        same_bytes(&format!("{about}, state"), &memory, &step.state)?;
+        same_answers(&about, &memory, &step.answered, &other)?;
+    }
+    Ok(())
+}
+
+/// A list through a state with lookups between its feeds, and after refused ones.
+pub fn lookup_runs<F, G>(
+    seed: u64,
+    functions: &StateFunctions<F, G>,
+    other: impl Fn(&[u8], u32, u32, &mut u16) -> u8,
+    counters: &mut Counters,
+) -> Result<(), String>
+where
+    F: Fn(&[u8], &[u8], &mut [u8]) -> u8,
+    G: Fn(&mut [u8], &[u8], &mut [u8]) -> u8,
+{
+    let run = checked_lookup_run(seed, counters)?;
+    same_lookup_run("the list", &run, functions, other)
+}
+
+/// Two alike lists through states, and the same lookups after both.
+pub fn lookup_twins<F, G>(
+    seed: u64,
+    functions: &StateFunctions<F, G>,
+    other: impl Fn(&[u8], u32, u32, &mut u16) -> u8,
+    counters: &mut Counters,
+) -> Result<(), String>
+where
+    F: Fn(&[u8], &[u8], &mut [u8]) -> u8,
+    G: Fn(&mut [u8], &[u8], &mut [u8]) -> u8,
+{
+    let [list, twin] = checked_twin_lookups(seed, counters)?;
+    same_lookup_run("the list", &list, functions, &other)?;
+    same_lookup_run("its twin", &twin, functions, &other)
+}
+
+/// Lookups at a made-up state, or at bytes that are none.
+pub fn lookups(
+    seed: u64,
+    other: impl Fn(&[u8], u32, u32, &mut u16) -> u8,
+    counters: &mut Counters,
+) -> Result<(), String> {
+    let (state, answered) = checked_lookups(seed, counters)?;
+    same_answers("the state", &state, &answered, other)
+}
+
+/// Lookups in all channels of a made-up state.
+pub fn lookup_channels(
+    seed: u64,
+    other: impl Fn(&[u8], u32, u32, &mut u16) -> u8,
+    counters: &mut Counters,
+) -> Result<(), String> {
+    let (state, answered) = checked_channels(seed, counters)?;
+    same_answers("the state", &state, &answered, other)
+}
+
+/// A lookup at every neighbour of a state under the bench table and bias file (seed 0) or under accepted ones.
+pub fn all_lookup_neighbours(
+    seed: u64,
+    other: impl Fn(&[u8], u32, u32, &mut u16) -> u8,
+    counters: &mut Counters,
+) -> Result<(), String> {
+    for (index, neighbour) in state_neighbours(seed).iter().enumerate() {
+        let answered = checked_probe(&neighbour.bytes, index, counters)?;
+        same_answers(&neighbour.description, &neighbour.bytes, &answered, &other)?;
+    }
+    Ok(())
+}
+
+/// The same for each byte of a state changed, one at a time.
+pub fn all_lookup_bytes(
+    seed: u64,
+    other: impl Fn(&[u8], u32, u32, &mut u16) -> u8,
+    counters: &mut Counters,
+) -> Result<(), String> {
+    for (index, state) in changed_bytes(seed).enumerate() {
+        let answered = checked_probe(&state, index, counters)?;
+        same_answers(&format!("change {index}"), &state, &answered, &other)?;
+    }
+    Ok(())
+}
+
 #[cfg(test)]
 mod tests {
     use super::*;
+    use crate::generator::kept_channels::ChannelValues;
     use crate::generator::ratios::{ratio, Mistake, MISTAKES};
     use crate::generator::states::StateValues;
     use crate::second::acceptance::thermometer_reading;
     use crate::second::bias::open_bias;
+    use crate::second::constants::Constants;
     use crate::second::listing::listing;
     use crate::second::product::scene_of;
     use crate::second::rounding::{floor, r, Fraction};
@@ -867,7 +994,7 @@ mod tests {
         ));
         // The room is tested after table and bias file, and the bias file after the table.
         let wrong = |table: &[u8], bias: &[u8], memory: &mut [u8]| match memory.len() {
-            0..=11_776 if open(table).is_ok() => 254,
+            0..=12_575 if open(table).is_ok() => 254,
             _ => state::fresh(table, bias, memory),
         };
         assert!(finds(
@@ -893,7 +1020,7 @@ mod tests {
         let wrong = |memory: &mut [u8], record: &[u8], buffer: &mut [u8]| {
             let answer = state::feed(memory, record, buffer);
             if answer == 0 {
-                memory[11_776] ^= 1;
+                memory[12_575] ^= 1;
             }
             answer
         };
@@ -926,7 +1053,7 @@ mod tests {
         ));
         // Bytes that are taken as a state after a repair that no rule has.
         type Repair = fn(&mut StateValues);
-        let repairs: [Repair; 6] = [
+        let repairs: [Repair; 8] = [
             |values| values.accepted = values.accepted.min(1),
             |values| values.number *= u32::from(values.accepted),
             |values| values.warm[7][21] = values.warm[7][21].min(786_421),
@@ -941,11 +1068,16 @@ mod tests {
                     values.bias[8_447..8_449].fill(0);
                 }
             },
+            |values| values.kept = values.kept.min(1),
+            |values| {
+                let last = &mut values.channels[21];
+                last.d = last.d.min(65_535 * last.slope as u64);
+            },
         ];
         for repair in repairs {
             let wrong = |memory: &mut [u8], record: &[u8], buffer: &mut [u8]| {
                 let answer = state::feed(memory, record, buffer);
-                if answer != 254 || memory.len() < 11_777 {
+                if answer != 254 || memory.len() < 12_576 {
                     return answer;
                 }
                 let mut values = StateValues::decode(memory);
@@ -959,7 +1091,7 @@ mod tests {
         }
         let no_version = |memory: &mut [u8], record: &[u8], buffer: &mut [u8]| {
             let mut repaired = memory.to_vec();
-            repaired[7..11].copy_from_slice(&[0, 0, 0, 4]);
+            repaired[7..11].copy_from_slice(&[0, 0, 0, 5]);
             state::feed(&mut repaired, record, buffer)
         };
         assert!(finds(
@@ -1262,6 +1394,382 @@ mod tests {
         };
         let compared = every_count(3, &wrong, &mut Counters::new());
         assert!(compared.unwrap_err().starts_with("channel 22, count 300: "));
+    }
+
+    /// A lookup with a part of it wrong. It halves the counts that are delivered.
+    #[derive(Clone, Copy)]
+    struct Lookup {
+        /// The answer before any count is looked at, given the state, the channel, and the right one.
+        refusal: fn(&[u8], u32, u8) -> u8,
+        /// The index from 0 of a channel.
+        index: fn(u32) -> usize,
+        /// The lowest and the highest count that is delivered.
+        ends: fn(&Constants) -> (i128, i128),
+        temperature: fn(&Constants, &[u8], usize, u16) -> i128,
+        /// The answer where this is the lowest count that reaches the wanted T, with this T.
+        found: fn(u16, i128, u32) -> Option<u16>,
+        wanted: fn(u32) -> u32,
+    }
+
+    const RIGHT: Lookup = Lookup {
+        refusal: |_, _, answer| answer,
+        index: |channel| channel as usize - 1,
+        ends: |own| {
+            let first = floor(own.base + own.slope - 1, own.slope);
+            let last = floor(4 * own.base + 5 * own.difference, 4 * own.slope);
+            (first, last.min(65_535))
+        },
+        temperature: |own, _, _, count| own.temperature(count).unwrap(),
+        found: |count, t, wanted| (t == wanted as i128).then_some(count),
+        wanted: |wanted| wanted,
+    };
+
+    impl Lookup {
+        fn of(&self, bytes: &[u8], channel: u32, wanted: u32, count: &mut u16) -> u8 {
+            let read = state::read(bytes);
+            let kept = read.as_ref().map(|read| read.start().channels.clone());
+            let right = match &kept {
+                None => 254,
+                Some(_) if !(1..=22).contains(&channel) => 11,
+                Some(None) => 12,
+                Some(Some(channels)) if channels[channel as usize - 1].is_err() => 12,
+                Some(_) => 0,
+            };
+            match (self.refusal)(bytes, channel, right) {
+                0 => {}
+                answer => return answer,
+            }
+            let index = (self.index)(channel).min(21);
+            let Some(Some(channels)) = kept else {
+                return 12;
+            };
+            let Ok(own) = channels[index] else {
+                return 12;
+            };
+            let wanted = (self.wanted)(wanted);
+            match self.reaching(&own, bytes, index, wanted) {
+                Some(found) => {
+                    *count = found;
+                    0
+                }
+                None => 253,
+            }
+        }
+
+        /// The answer of the lowest delivered count that reaches the wanted T.
+        fn reaching(
+            &self,
+            own: &Constants,
+            bytes: &[u8],
+            index: usize,
+            wanted: u32,
+        ) -> Option<u16> {
+            let (first, last) = (self.ends)(own);
+            let t = |count: i128| (self.temperature)(own, bytes, index, count as u16);
+            let (mut low, mut high) = (first, last + 1);
+            while low < high {
+                let middle = floor(low + high, 2);
+                if t(middle) < wanted as i128 {
+                    low = middle + 1;
+                } else {
+                    high = middle;
+                }
+            }
+            if low > last {
+                return None;
+            }
+            (self.found)(low as u16, t(low), wanted)
+        }
+    }
+
+    /// States with what lookups leave at them: made-up ones, and those of a run.
+    fn asked_states() -> Vec<(Vec<u8>, Answered)> {
+        let mut counters = Counters::new();
+        let made_up = (0..8).map(|seed| checked_lookups(seed, &mut counters).unwrap());
+        let mut all: Vec<(Vec<u8>, Answered)> = made_up.collect();
+        let run = checked_lookup_run(1, &mut counters).unwrap();
+        all.extend(
+            run.steps
+                .into_iter()
+                .map(|step| (step.state, step.answered)),
+        );
+        all
+    }
+
+    /// Whether a lookup leaves something else at one of these states.
+    fn lookup_differs(
+        asked: &[(Vec<u8>, Answered)],
+        lookup: impl Fn(&[u8], u32, u32, &mut u16) -> u8,
+    ) -> bool {
+        let mut all = asked.iter();
+        all.any(|(state, answered)| same_answers("", state, answered, &lookup).is_err())
+    }
+
+    /// Whether each of these lookups does, and the right one does not.
+    fn check_wrong_lookups(lookups: Vec<Lookup>) {
+        let asked = asked_states();
+        let differs = |lookup: Lookup| {
+            lookup_differs(&asked, |state, channel, wanted, count| {
+                lookup.of(state, channel, wanted, count)
+            })
+        };
+        assert!(!differs(RIGHT));
+        for (index, lookup) in lookups.into_iter().enumerate() {
+            assert!(differs(lookup), "way {index}");
+        }
+    }
+
+    #[test]
+    fn lookups_differ_where_another_answer_comes_first() {
+        let refusals: [fn(&[u8], u32, u8) -> u8; 6] = [
+            // 11 before 254, 12 before 11, 12 for 11, bytes behind a state refused, a scan with nothing kept refused,
+            // no flag looked at.
+            |_, channel, answer| match (1..=22).contains(&channel) {
+                true => answer,
+                false => 11,
+            },
+            |bytes, _, answer| match answer {
+                11 if bytes[11_783] == 0 => 12,
+                answer => answer,
+            },
+            |_, _, answer| answer + u8::from(answer == 11),
+            |bytes, _, answer| match bytes.len() {
+                12_576 => answer,
+                _ => 254,
+            },
+            |bytes, _, answer| match answer {
+                12 if bytes[1_421] == 1 && bytes[11_783] == 0 => 254,
+                answer => answer,
+            },
+            |bytes, _, answer| match answer {
+                12 if bytes[11_783] == 1 => 253,
+                answer => answer,
+            },
+        ];
+        let lookups = refusals.map(|refusal| Lookup { refusal, ..RIGHT });
+        check_wrong_lookups(lookups.to_vec());
+    }
+
+    #[test]
+    fn lookups_differ_where_a_count_is_left_out_or_another_is_taken() {
+        let ends: [fn(&Constants) -> (i128, i128); 4] = [
+            // Not the first, not the last, not 0, not 65,535.
+            |own| ((RIGHT.ends)(own).0 + 1, (RIGHT.ends)(own).1),
+            |own| ((RIGHT.ends)(own).0, (RIGHT.ends)(own).1 - 1),
+            |own| ((RIGHT.ends)(own).0.max(1), (RIGHT.ends)(own).1),
+            |own| ((RIGHT.ends)(own).0, (RIGHT.ends)(own).1.min(65_534)),
+        ];
+        let founds: [fn(u16, i128, u32) -> Option<u16>; 3] = [
+            // The lowest count that reaches the wanted T, one that is at most a unit above it, and the count before.
+            |count, _, _| Some(count),
+            |count, t, wanted| (t - wanted as i128 <= 1).then_some(count),
+            |count, t, wanted| (t == wanted as i128).then(|| count.saturating_sub(1)),
+        ];
+        let mut lookups = ends.map(|ends| Lookup { ends, ..RIGHT }).to_vec();
+        lookups.extend(founds.map(|found| Lookup { found, ..RIGHT }));
+        check_wrong_lookups(lookups);
+    }
+
+    #[test]
+    fn lookups_differ_where_t_or_the_channel_is_another() {
+        let temperatures: [fn(&Constants, &[u8], usize, u16) -> i128; 3] = [
+            // With scan bias, without TNL, and with one term rounded down.
+            |own, bytes, channel, count| {
+                let t = (RIGHT.temperature)(own, bytes, channel, count);
+                let bias = open_bias(&bytes[3_326..11_777]).unwrap();
+                bias.pair(channel, 0).biased(t)
+            },
+            |own, bytes, channel, count| {
+                let level = Constants {
+                    nonlinearity: 0,
+                    ..*own
+                };
+                (RIGHT.temperature)(&level, bytes, channel, count)
+            },
+            |own, bytes, channel, count| {
+                let n = own.slope * count as i128 - own.base;
+                let parts = n * own.rise;
+                let up = r(parts, own.difference) - floor(parts, own.difference);
+                (RIGHT.temperature)(own, bytes, channel, count) - up
+            },
+        ];
+        let cuts: [fn(u32) -> u32; 3] = [
+            |wanted| wanted % (1 << 21),
+            |wanted| wanted % (1 << 24),
+            |wanted| wanted % (1 << 31),
+        ];
+        let of_temperature = |temperature| Lookup {
+            temperature,
+            ..RIGHT
+        };
+        let mut lookups = temperatures.map(of_temperature).to_vec();
+        lookups.extend(cuts.map(|wanted| Lookup { wanted, ..RIGHT }));
+        // Channels counted from 0.
+        lookups.push(Lookup {
+            index: |channel| channel as usize,
+            ..RIGHT
+        });
+        check_wrong_lookups(lookups);
+    }
+
+    #[test]
+    fn lookups_differ_where_a_refusal_writes_a_count() {
+        let asked = asked_states();
+        for number in [11, 12, 253, 254] {
+            let differs = lookup_differs(&asked, |state, channel, wanted, count| {
+                let answer = RIGHT.of(state, channel, wanted, count);
+                if answer == number {
+                    *count = 0;
+                }
+                answer
+            });
+            assert!(differs, "{number}");
+        }
+    }
+
+    #[test]
+    fn lookup_neighbours_differ_where_a_test_is_left_out() {
+        let mut counters = Counters::new();
+        // Those that differ in 0x37.
+        let is_kept = |about: &str| about.contains("kept") || about.contains("0x37");
+        let neighbours = state_neighbours(0).into_iter().enumerate();
+        let probes: Vec<(Vec<u8>, Answered)> = neighbours
+            .filter(|(_, neighbour)| is_kept(&neighbour.description))
+            .map(|(index, neighbour)| {
+                let answered = checked_probe(&neighbour.bytes, index, &mut counters).unwrap();
+                (neighbour.bytes, answered)
+            })
+            .collect();
+        let differs = |repair: fn(&mut StateValues)| {
+            lookup_differs(&probes, |bytes, channel, wanted, count| {
+                let answer = RIGHT.of(bytes, channel, wanted, count);
+                if answer != 254 {
+                    return answer;
+                }
+                let mut values = StateValues::decode(bytes);
+                repair(&mut values);
+                RIGHT.of(&values.encode(), channel, wanted, count)
+            })
+        };
+        assert!(!differs(|_| {}));
+        // Bytes that are taken as a state after a repair that no rule has.
+        type Repair = fn(&mut StateValues);
+        let repairs: [Repair; 12] = [
+            |values| values.kept = values.kept.min(1),
+            |values| {
+                if values.kept == 0 {
+                    values.channels = [ChannelValues::default(); 22];
+                }
+            },
+            |values| {
+                if values.accepted == 0 {
+                    values.kept = 0;
+                    values.channels = [ChannelValues::default(); 22];
+                }
+            },
+            |values| values.channels[0].flag = values.channels[0].flag.min(4),
+            |values| {
+                let last = &mut values.channels[21];
+                if last.flag > 0 {
+                    *last = ChannelValues::flagged(last.flag);
+                }
+            },
+            |values| {
+                let own = &mut values.channels[21];
+                own.tc = own.tc.clamp(11_166, 43_934);
+            },
+            |values| {
+                let own = &mut values.channels[0];
+                own.rise = own.rise.clamp(825_032, 1_357_512);
+            },
+            |values| {
+                let own = &mut values.channels[21];
+                own.tnl = own.tnl.clamp(-8_192, 8_192);
+            },
+            |values| {
+                let own = &mut values.channels[0];
+                own.d = own.d.max(1);
+            },
+            |values| {
+                let own = &mut values.channels[21];
+                own.d = own.d.min(65_535 * own.slope as u64);
+            },
+            |values| {
+                let own = &mut values.channels[0];
+                own.slope = own.slope.min(780_300);
+                own.d = own.d.min(65_535 * own.slope as u64);
+            },
+            |values| {
+                let own = &mut values.channels[21];
+                own.base = own.base.min(51_136_960_500);
+            },
+        ];
+        for (index, repair) in repairs.into_iter().enumerate() {
+            assert!(differs(repair), "repair {index}");
+        }
+    }
+
+    #[test]
+    fn lookup_runs_differ_where_another_scan_is_kept() {
+        let mut counters = Counters::new();
+        let run = checked_lookup_run(2, &mut counters).unwrap();
+        let ask = |state: &[u8], channel: u32, wanted: u32, count: &mut u16| {
+            RIGHT.of(state, channel, wanted, count)
+        };
+        type FeedState = fn(&mut [u8], &[u8], &mut [u8]) -> u8;
+        let finds = |feed: FeedState| {
+            let fresh = state::fresh;
+            let functions = StateFunctions { fresh, feed };
+            same_lookup_run("", &run, &functions, ask).is_err()
+        };
+        assert!(!finds(state::feed));
+        let wrongs: [FeedState; 4] = [
+            // The channels of the scan before, the flags of the scan before, those of a scan that is refused with 7,
+            // and TNL of the first pair.
+            |memory, record, buffer| {
+                let before = memory.to_vec();
+                let answer = state::feed(memory, record, buffer);
+                if answer == 0 && before[11_783] == 1 {
+                    memory[11_780..12_576].copy_from_slice(&before[11_780..12_576]);
+                }
+                answer
+            },
+            |memory, record, buffer| {
+                let before = StateValues::decode(memory);
+                let answer = state::feed(memory, record, buffer);
+                let mut values = StateValues::decode(memory);
+                for (own, before) in values.channels.iter_mut().zip(before.channels) {
+                    if answer == 0 && before.flag != 0 {
+                        *own = before;
+                    }
+                }
+                memory[..12_576].copy_from_slice(&values.encode());
+                answer
+            },
+            |memory, record, buffer| {
+                let answer = state::feed(memory, record, buffer);
+                let mut after = memory.to_vec();
+                if answer == 7 && state::feed(&mut after, record, &mut vec![0; 8_706]) == 0 {
+                    memory[11_780..12_576].copy_from_slice(&after[11_780..12_576]);
+                }
+                answer
+            },
+            |memory, record, buffer| {
+                let answer = state::feed(memory, record, buffer);
+                let mut values = StateValues::decode(memory);
+                let table = open(&values.table).unwrap();
+                for (channel, own) in values.channels.iter_mut().enumerate() {
+                    if answer == 0 && own.flag == 0 {
+                        own.tnl = table.channels[channel].shelf_pairs[0].nonlinearity as i32;
+                    }
+                }
+                memory[..12_576].copy_from_slice(&values.encode());
+                answer
+            },
+        ];
+        for (index, wrong) in wrongs.into_iter().enumerate() {
+            assert!(finds(wrong), "feed {index}");
+        }
     }
 
     #[test]

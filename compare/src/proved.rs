@@ -116,6 +116,13 @@ extern "C" {
         buffer: *mut u8,
         buffer_length: usize,
     ) -> u8;
+    fn sounder_count_behind(
+        state: *const u8,
+        state_length: usize,
+        channel: u32,
+        wanted: u32,
+        count: *mut u16,
+    ) -> u8;
 }
 
 // Each wrapper tests what the proved function's `requires` asks.
@@ -324,6 +331,11 @@ pub fn feed(state: &mut [u8], record: &[u8], buffer: &mut [u8]) -> u8 {
     }
 }
 
+/// The count behind a wanted T, and 0; or 254, 11, 12 or 253, which leave what stands in its place.
+pub fn count_behind(state: &[u8], channel: u32, wanted: u32, count: &mut u16) -> u8 {
+    unsafe { sounder_count_behind(state.as_ptr(), state.len(), channel, wanted, count) }
+}
+
 /// Bytes behind memory that a function is given, which it must not write.
 const BEHIND: [u8; 64] = [0xc3; 64];
 
@@ -345,6 +357,21 @@ fn guarded_feed(state: &mut [u8], record: &[u8], buffer: &mut [u8]) -> u8 {
     with_bytes_behind(state, |state| {
         with_bytes_behind(buffer, |buffer| feed(state, record, buffer))
     })
+}
+
+/// A lookup writes nothing but the count.
+fn guarded_count_behind(state: &[u8], channel: u32, wanted: u32, count: &mut u16) -> u8 {
+    const BESIDE: u16 = 0xc3c3;
+    let mut copy = state.to_vec();
+    let mut counts = [BESIDE, *count, BESIDE];
+    let answer = with_bytes_behind(&mut copy, |state| {
+        count_behind(state, channel, wanted, &mut counts[1])
+    });
+    assert_eq!(copy, state, "a lookup leaves the state as it was");
+    let beside = [counts[0], counts[2]];
+    assert_eq!(beside, [BESIDE; 2], "nothing is written beside the count");
+    *count = counts[1];
+    answer
 }
 
 fn state_size(_: u64, _: &mut Counters) -> Result<(), String> {
@@ -380,13 +407,14 @@ fn feed_nothing(table: Option<&[u8]>, bias: Option<&[u8]>, answers: &mut [u8; 3]
 }
 
 /// Null pointers with a count of 0 are empty: an empty table is refused with 1 and so is an empty bias file,
-/// under the bench table and bias file no feed is there, no memory has room for a state or is one, an empty
-/// record is refused with 4 and an empty buffer with 7.
+/// under the bench table and bias file no feed is there, no memory has room for a state or is one, for a lookup
+/// too, an empty record is refused with 4 and an empty buffer with 7.
 fn null_pointers(_: u64, _: &mut Counters) -> Result<(), String> {
     let table = TableValues::bench().encode();
     let bias = BiasValues::zeros().encode();
     let record = RecordValues::bench().encode();
     let room = null_mut();
+    let mut count = 40_961;
     let mut answers = [77; 3];
     let mut state = vec![0; state::LENGTH];
     let made = fresh(&table, &bias, &mut state);
@@ -410,9 +438,12 @@ fn null_pointers(_: u64, _: &mut Counters) -> Result<(), String> {
             sounder_feed(room, 0, null(), 0, room, 0),
             sounder_feed(memory.0, memory.1, null(), 0, room, 0),
             sounder_feed(memory.0, memory.1, record.as_ptr(), record.len(), room, 0),
+            sounder_count_behind(null(), 0, 0, 565_394, &mut count),
+            sounder_count_behind(memory.0, memory.1, 0, 565_394, &mut count),
         ]
     };
-    let right = met == [1, 1, 1, 1, 254, 254, 4, 7] && made == 0 && state == before;
+    let right = met == [1, 1, 1, 1, 254, 254, 4, 7, 254, 11];
+    let right = right && made == 0 && state == before && count == 40_961;
     if right && refused == [1; 3] && untouched && fed == 0 && answers == [255; 3] {
         return Ok(());
     }
@@ -499,7 +530,7 @@ fn calibrate(input: &ListingInput) -> (Vec<u8>, String) {
 }
 
 /// The comparisons by the name that `--case` takes, and how many cases of each are run for a thousand.
-pub const KINDS: [(&str, Check, u64); 27] = [
+pub const KINDS: [(&str, Check, u64); 33] = [
     (
         "floor_div",
         |seed, counters| against::divisions(seed, floor_div, counters),
@@ -615,6 +646,28 @@ pub const KINDS: [(&str, Check, u64); 27] = [
         |seed, counters| against::one_number(seed, outcomes_at_once, counters),
         2,
     ),
+    ("lookup_run", lookup_run, 10),
+    ("lookup_twins", lookup_twins, 4),
+    (
+        "lookup",
+        |seed, counters| against::lookups(seed, guarded_count_behind, counters),
+        30,
+    ),
+    (
+        "lookup_channels",
+        |seed, counters| against::lookup_channels(seed, guarded_count_behind, counters),
+        1,
+    ),
+    (
+        "lookup_neighbours",
+        |seed, counters| against::all_lookup_neighbours(seed, guarded_count_behind, counters),
+        1,
+    ),
+    (
+        "lookup_bytes",
+        |seed, counters| against::all_lookup_bytes(seed, guarded_count_behind, counters),
+        1,
+    ),
 ];
 
 type Fresh = fn(&[u8], &[u8], &mut [u8]) -> u8;
@@ -630,6 +683,16 @@ fn state_functions() -> StateFunctions<Fresh, FeedState> {
 /// A list through states, and in one call.
 fn state_run(seed: u64, counters: &mut Counters) -> Result<(), String> {
     against::state_runs(seed, &state_functions(), outcomes_at_once, counters)
+}
+
+/// A list through states with lookups between its feeds.
+fn lookup_run(seed: u64, counters: &mut Counters) -> Result<(), String> {
+    against::lookup_runs(seed, &state_functions(), guarded_count_behind, counters)
+}
+
+/// The same of two alike lists.
+fn lookup_twins(seed: u64, counters: &mut Counters) -> Result<(), String> {
+    against::lookup_twins(seed, &state_functions(), guarded_count_behind, counters)
 }
 
 /// Runs the cases `first`, `first + step` and so on of a kind, and counts what they met.

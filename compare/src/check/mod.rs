@@ -32,8 +32,12 @@ pub mod calls;
 
 pub mod listings;
 
+pub mod kept_channels;
+
 pub mod states;
 
 pub mod six_numbers;
+
+pub mod lookups;
 
 pub mod run;

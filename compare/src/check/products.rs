@@ -213,11 +213,7 @@ fn check_channel(
         };
         counters.met("D with weights", class);
     }
-    let expected_flag = match shares.iter().position(|share| !share.suffices()) {
-        Some(position) => position as u8 + 1,
-        None if d <= 0 => 4,
-        None => 0,
-    };
+    let expected_flag = rules::flag(table, channel, &sums);
     let flag = flag_of(product, channel);
     if flag != expected_flag {
         let about = format!("flag {flag}, expected {expected_flag}");

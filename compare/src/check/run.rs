@@ -7,6 +7,9 @@ use super::calls::check_call;
 use super::counters::Counters;
 use super::listings::check_listing;
 use super::lists::check_list;
+use super::lookups::{
+    check_channels, check_lookup_bytes, check_lookup_neighbours, check_lookup_run, check_lookups,
+};
 use super::numbers::check_divisions;
 use super::one_shelf::check_one_shelf;
 use super::six_numbers::{check_every_count, check_one_number, check_six_numbers};
@@ -15,6 +18,7 @@ use super::states::{
 };
 use super::tables::{check_neighbours, check_table};
 use super::thermometers::check_thermometer;
+use super::twins::check_twin_lookups;
 use super::zeros::check_zeros;
 use crate::generator::random::case_seed;
 
@@ -22,7 +26,7 @@ use crate::generator::random::case_seed;
 pub type Check = fn(u64, &mut Counters) -> Result<(), String>;
 
 /// The kinds of cases, by the name that `--case` takes.
-pub const KINDS: [(&str, Check); 19] = [
+pub const KINDS: [(&str, Check); 25] = [
     ("division", check_divisions),
     ("neighbours", check_neighbours),
     ("table", check_table),
@@ -42,6 +46,12 @@ pub const KINDS: [(&str, Check); 19] = [
     ("six_numbers", check_six_numbers),
     ("every_count", check_every_count),
     ("one_number", check_one_number),
+    ("lookup_run", check_lookup_run),
+    ("lookup_twins", check_twin_lookups),
+    ("lookup", check_lookups),
+    ("lookup_channels", check_channels),
+    ("lookup_neighbours", check_lookup_neighbours),
+    ("lookup_bytes", check_lookup_bytes),
 ];
 
 pub const DEFAULT_SEED: u64 = 20_260_101;
@@ -120,6 +130,12 @@ pub fn run_all(seed: u64, feeds: u64, counters: &mut Counters) -> Result<(), Fai
             "six_numbers" => feeds / 100 + 1,
             "every_count" => feeds / 2_000 + 1,
             "one_number" => feeds / 1_000 + 1,
+            "lookup_run" => feeds / 100 + 1,
+            "lookup_twins" => feeds / 400 + 1,
+            "lookup" => feeds / 50 + 1,
+            "lookup_channels" => feeds / 2_000 + 1,
+            "lookup_neighbours" => feeds / 4_000 + 1,
+            "lookup_bytes" => feeds / 8_000 + 1,
             _ => u64::MAX,
         };
         for index in 0..cases {

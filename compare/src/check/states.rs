@@ -5,6 +5,7 @@ use std::collections::BTreeMap;
 
 use super::biases::{count_edges, plain_bias_answer};
 use super::counters::Counters;
+use super::kept_channels::{self, check_kept, count_kept};
 use super::lists::refusals;
 use super::outcomes::{outcomes, Outcome};
 use super::products::check_product;
@@ -39,10 +40,10 @@ fn values_of_age(bytes: &[u8], (first, step): (usize, usize), age: usize) -> Vec
 
 /// Why bytes are no state, each reason stated for itself where it can be.
 pub fn reasons(bytes: &[u8]) -> Vec<&'static str> {
-    if bytes.len() < 11_777 {
+    if bytes.len() < 12_576 {
         return vec!["fewer bytes"];
     }
-    let mut all: Vec<&'static str> = Vec::new();
+    let mut all = kept_channels::reasons(bytes);
     let heads = [
         (0, [0x30, 0, 8]),
         (11, [0x31, 5, 124]),
@@ -60,7 +61,7 @@ pub fn reasons(bytes: &[u8]) -> Vec<&'static str> {
     if bytes[3..7] != *b"SNDR" {
         all.push("magic number");
     }
-    if bytes[7..11] != [0, 0, 0, 4] {
+    if bytes[7..11] != [0, 0, 0, 5] {
         all.push("version");
     }
     match plain_answer(&bytes[14..1_418]) {
@@ -109,10 +110,10 @@ pub fn reasons(bytes: &[u8]) -> Vec<&'static str> {
 /// Counts what stands in the bytes that a function is given as a state.
 fn count_state(bytes: &[u8], reasons: &[&str], counters: &mut Counters) {
     match bytes.len() {
-        length @ (0 | 3_323 | 11_114 | 11_776 | 11_777 | 11_778) => {
+        length @ (0 | 3_323 | 11_114 | 11_777 | 12_575 | 12_576 | 12_577) => {
             counters.met("state length", &length.to_string())
         }
-        length if length > 11_778 => counters.met("state length", "longer"),
+        length if length > 12_577 => counters.met("state length", "longer"),
         _ => {}
     }
     // Where one reason alone holds, it decides.
@@ -122,10 +123,11 @@ fn count_state(bytes: &[u8], reasons: &[&str], counters: &mut Counters) {
     if reasons.len() > 1 {
         counters.met("no state", "more than one");
     }
-    if bytes.len() < 11_777 {
+    if bytes.len() < 12_576 {
         return;
     }
-    if let version @ 0..=5 = u32_at(bytes, 7) {
+    count_kept(bytes, counters);
+    if let version @ 0..=6 = u32_at(bytes, 7) {
         counters.met("version of a state", &version.to_string());
     }
     let bias = &bytes[3_326..11_777];
@@ -200,7 +202,7 @@ fn scans_of(bytes: &[u8]) -> BTreeMap<u32, ScanValues> {
     scans
 }
 
-/// Checks what an accepted feed left, by the words of section 13 on the bytes before.
+/// Checks what an accepted feed left, by the words of section 14 on the bytes before.
 fn check_accepted(
     feed: &StateFeed,
     after: &StateOutcome,
@@ -209,7 +211,7 @@ fn check_accepted(
     let wrong = |what: &str| Err(format!("accepted: {what}"));
     let before = &feed.state;
     let state = &after.state;
-    if state.len() != before.len() || state[11_777..] != before[11_777..] {
+    if state.len() != before.len() || state[12_576..] != before[12_576..] {
         return wrong("bytes behind the state changed");
     }
     let buffer = &after.buffer;
@@ -221,7 +223,7 @@ fn check_accepted(
         1_426..1_429,
         2_133..2_136,
         2_840..2_843,
-        3_323..11_777,
+        3_323..11_780,
     ] {
         if state[stays.clone()] != before[stays.clone()] {
             return wrong(&format!("bytes {stays:?} of the state changed"));
@@ -269,6 +271,7 @@ fn check_accepted(
     }
     let mut scans = scans_of(before);
     scans.insert(record.number(), scan_values(&samples));
+    check_kept(state, &table, &record, &scans)?;
     let (bias, product) = (&before[3_326..11_777], &buffer[..8_706]);
     check_product(&table, bias, &record, product, &scans, counters)
 }
@@ -346,7 +349,7 @@ pub fn probe(state: &[u8], index: usize) -> StateFeed {
         record: Vec::new(),
         buffer: vec![5; 8_707],
     };
-    if index % 64 < 4 && state.len() >= 11_777 {
+    if index % 64 < 4 && state.len() >= 12_576 {
         let last = u32_at(state, 1_422);
         let mut record = RecordValues::bench();
         record.number = last.saturating_add(1 + (index / 64) as u32 % 9);
@@ -403,7 +406,7 @@ fn fresh_answers(input: &FreshInput) -> Vec<(&'static str, u8)> {
         ("table", plain_answer(&input.table)),
         ("bias", plain_bias_answer(&input.bias)),
     ];
-    if input.memory.len() < 11_777 {
+    if input.memory.len() < 12_576 {
         all.push(("254", 254));
     }
     all.retain(|(_, number)| *number != 0);
@@ -447,7 +450,7 @@ pub fn checked_fresh(input: &FreshInput, counters: &mut Counters) -> Result<(u8,
     let mut left = memory.clone();
     if answer == 0 {
         let state = StateValues::fresh(table.clone(), bias.clone()).encode();
-        left[..11_777].copy_from_slice(&state);
+        left[..12_576].copy_from_slice(&state);
     }
     if after != left {
         return Err(format!("fresh: {answer}, the memory is another"));
@@ -478,7 +481,7 @@ where
     F: Fn(&[u8], &[u8], &mut [u8]) -> u8,
     G: Fn(&mut [u8], &[u8], &mut [u8]) -> u8,
 {
-    let mut state = vec![3; 11_777];
+    let mut state = vec![3; 12_576];
     let mut answers = vec![(functions.fresh)(&list.table, &list.bias, &mut state)];
     let last = roll.last().map_or(0, ScanRecord::number);
     for record in roll {
@@ -507,7 +510,7 @@ where
     G: Fn(&mut [u8], &[u8], &mut [u8]) -> u8,
 {
     let mut random = Random::new(seed);
-    let mut memory = random.bytes(11_777);
+    let mut memory = random.bytes(12_576);
     if (functions.fresh)(&list.table, &list.bias, &mut memory) != 0 {
         return Err("no fresh state of an accepted table and bias file".to_string());
     }
@@ -524,7 +527,7 @@ where
             }
             2 => {
                 let more = random.below(500);
-                memory.truncate(11_777);
+                memory.truncate(12_576);
                 memory.extend(random.bytes(more));
                 "moved"
             }
@@ -534,7 +537,7 @@ where
             }
             _ => {
                 let state = rebuilt(list, &roll, functions)?;
-                if memory[..11_777] != state {
+                if memory[..12_576] != state {
                     return Err(format!("feed {}: another state rebuilt", index + 1));
                 }
                 memory = state;
@@ -590,7 +593,7 @@ pub fn checked_state_run(
     for (index, (feed, outcome)) in list.feeds.iter().zip(&states).enumerate() {
         let mut buffer = feed.buffer.clone();
         calibrator = calibrator.feed(&feed.record, &mut buffer).calibrator;
-        if outcome.state[..11_777] != state::write(&calibrator) {
+        if outcome.state[..12_576] != state::write(&calibrator) {
             return Err(format!("feed {}: not the state of the roll", index + 1));
         }
     }

@@ -1,8 +1,12 @@
-//! Checks of alike lists: the same products.
+//! Checks of alike lists: the same products, and the same lookups.
 
 use super::counters::Counters;
+use super::lookups::{checked_alike_runs, LookupRun};
 use super::outcomes::{outcomes, Outcome};
 use crate::generator::lists::FeedList;
+use crate::generator::lookups::asked_list;
+use crate::generator::random::case_seed;
+use crate::generator::twins::alike_twin;
 use crate::second::acceptance::accepted_samples;
 use crate::second::calibrator::judge;
 use crate::second::product::LENGTH;
@@ -89,6 +93,29 @@ pub fn checked_twin(
         counters.met_times("twins", "samples changed", changed);
     }
     Ok(second)
+}
+
+/// Asks a list and its twin after their last feed: lookups leave the same.
+pub fn checked_twin_lookups(seed: u64, counters: &mut Counters) -> Result<[LookupRun; 2], String> {
+    let mut list = asked_list(seed).list;
+    // The last feed but one is asked.
+    list.feeds.pop();
+    let twin = alike_twin(&list, case_seed(seed, 1));
+    if !are_alike(&list, &twin) {
+        return Err("the twin is not alike".to_string());
+    }
+    let runs = checked_alike_runs([&list, &twin], case_seed(seed, 2), counters)?;
+    for (index, step) in runs[0].steps[1..].iter().enumerate() {
+        if step.answer == 0 {
+            let changed = changed_samples(&list.feeds[index].record, &twin.feeds[index].record);
+            counters.met_times("twins", "samples changed before a lookup", changed);
+        }
+    }
+    Ok(runs)
+}
+
+pub fn check_twin_lookups(seed: u64, counters: &mut Counters) -> Result<(), String> {
+    checked_twin_lookups(seed, counters).map(drop)
 }
 
 #[cfg(test)]

@@ -8,7 +8,7 @@ pub const RECORD: [(u8, usize); 6] = [(1, 4), (2, 34), (3, 176), (4, 176), (5, 4
 
 pub const PRODUCT: [(u8, usize); 4] = [(0x20, 4), (0x21, 22), (0x22, 8_448), (0x23, 220)];
 
-pub const STATE: [(u8, usize); 7] = [
+pub const STATE: [(u8, usize); 8] = [
     (0x30, 8),
     (0x31, 1_404),
     (0x32, 5),
@@ -16,6 +16,7 @@ pub const STATE: [(u8, usize); 7] = [
     (0x34, 704),
     (0x35, 480),
     (0x36, 8_451),
+    (0x37, 796),
 ];
 
 /// The positions of all bytes of tags and lengths.

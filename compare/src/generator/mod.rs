@@ -48,6 +48,8 @@ pub mod listings;
 
 pub mod laid_out;
 
+pub mod kept_channels;
+
 pub mod states;
 
 pub mod weighted_sides;
@@ -55,3 +57,5 @@ pub mod weighted_sides;
 pub mod aimed_windows;
 
 pub mod six_numbers;
+
+pub mod lookups;

@@ -2,6 +2,7 @@
 
 use super::bias_neighbours::{bias_neighbours, C0_EDGES};
 use super::biases::BiasValues;
+use super::kept_channels::{channel_in_range, channel_neighbours, made_up_channel, ChannelValues};
 use super::layouts::{head_positions, STATE};
 use super::lists::{
     feed_list, first_number, next_number, plan, planned_bytes, random_buffer, Behind, Plan,
@@ -82,6 +83,9 @@ pub struct StateValues {
     pub warm: [[u32; 22]; 8],
     pub cold: [[u32; 22]; 8],
     pub thermometers: [[u32; 15]; 8],
+    /// The first number of 0x37: 1 if channels are kept.
+    pub kept: u32,
+    pub channels: [ChannelValues; 22],
 }
 
 impl StateValues {
@@ -94,13 +98,15 @@ impl StateValues {
             warm: [[0; 22]; 8],
             cold: [[0; 22]; 8],
             thermometers: [[0; 15]; 8],
+            kept: 0,
+            channels: [ChannelValues::default(); 22],
         }
     }
 
     pub fn encode(&self) -> Vec<u8> {
         let mut bytes = vec![0x30, 0, 8];
         bytes.extend(*b"SNDR");
-        bytes.extend([0, 0, 0, 4]);
+        bytes.extend([0, 0, 0, 5]);
         bytes.extend([0x31, 0x05, 0x7c]);
         bytes.extend(&self.table);
         bytes.extend([0x32, 0, 5]);
@@ -120,6 +126,11 @@ impl StateValues {
         }
         bytes.extend([0x36, 0x21, 0x03]);
         bytes.extend(&self.bias);
+        bytes.extend([0x37, 0x03, 0x1c]);
+        bytes.extend(self.kept.to_be_bytes());
+        for channel in &self.channels {
+            bytes.extend(channel.encode());
+        }
         bytes
     }
 
@@ -141,6 +152,10 @@ impl StateValues {
             thermometers: std::array::from_fn(|age| {
                 std::array::from_fn(|index| u32_at(2_843 + 60 * age + 4 * index))
             }),
+            kept: u32_at(11_780),
+            channels: std::array::from_fn(|channel| {
+                ChannelValues::decode(&bytes[11_784 + 36 * channel..])
+            }),
         }
     }
 
@@ -150,6 +165,12 @@ impl StateValues {
             KeptField::Cold => self.cold[age][index] = number,
             KeptField::Thermometers => self.thermometers[age][index] = number,
         }
+    }
+
+    /// Keeps channels of the last accepted scan that no run needs to reach.
+    pub fn keep_made_up_channels(&mut self, random: &mut Random) {
+        self.kept = 1;
+        self.channels = [(); 22].map(|_| made_up_channel(random));
     }
 }
 
@@ -161,8 +182,9 @@ pub struct StateFeed {
     pub buffer: Vec<u8>,
 }
 
-/// A state that no run needs to reach: any values in range at the ages that its number allows.
-fn made_up(random: &mut Random, table: Vec<u8>, bias: Vec<u8>) -> StateValues {
+/// A state that no run needs to reach: any values in range at the ages that its number allows, and any channels of
+/// the last accepted scan, or none.
+pub fn made_up(random: &mut Random, table: Vec<u8>, bias: Vec<u8>) -> StateValues {
     let mut values = StateValues::fresh(table, bias);
     if random.once_in(8) {
         return values;
@@ -192,6 +214,9 @@ fn made_up(random: &mut Random, table: Vec<u8>, bias: Vec<u8>) -> StateValues {
                 }
             }
         }
+    }
+    if !random.once_in(8) {
+        values.keep_made_up_channels(random);
     }
     values
 }
@@ -267,9 +292,9 @@ fn made_up_feed(random: &mut Random) -> StateFeed {
 }
 
 /// A state with one change; some stay a state.
-fn changed(random: &mut Random, state: &[u8]) -> Vec<u8> {
+pub fn changed(random: &mut Random, state: &[u8]) -> Vec<u8> {
     let mut bytes = state.to_vec();
-    match random.below(5) {
+    match random.below(7) {
         0 => {
             let position = random.below(bytes.len());
             bytes[position] = random.next() as u8;
@@ -293,6 +318,18 @@ fn changed(random: &mut Random, state: &[u8]) -> Vec<u8> {
             let (c0, _) = random.pick(&C0_EDGES);
             let at = 3_329 + 4 * pair;
             bytes[at..at + 2].copy_from_slice(&c0.to_be_bytes());
+        }
+        4 => {
+            let mut values = StateValues::decode(&bytes);
+            let own = channel_in_range(random);
+            let (channel, _) = random.pick(&channel_neighbours(&own));
+            values.channels[random.below(22)] = channel;
+            bytes = values.encode();
+        }
+        5 => {
+            let mut values = StateValues::decode(&bytes);
+            values.kept = random.pick(&[0, 1, 2, 1 << 24, u32::MAX]);
+            bytes = values.encode();
         }
         _ => {
             let mut values = StateValues::decode(&bytes);
@@ -321,8 +358,8 @@ pub fn state_feed(seed: u64) -> StateFeed {
         feed.state.extend(random.bytes(more));
     }
     if random.once_in(20) {
-        let any = random.below(11_777);
-        let length = random.pick(&[0, 3_323, 11_114, 11_776, 11_776, any]);
+        let any = random.below(12_576);
+        let length = random.pick(&[0, 3_323, 11_114, 11_777, 12_575, 12_575, any]);
         feed.state.truncate(length);
     }
     feed
@@ -350,9 +387,9 @@ pub fn fresh_input(seed: u64) -> FreshInput {
         number @ 4..=6 => refused_bias(&mut random, number as u8 - 3),
         _ => bias_bytes(random.next()),
     };
-    let any = random.below(24_000);
+    let any = random.below(26_000);
     let length = random.pick(&[
-        0, 3_323, 11_114, 11_776, 11_777, 11_777, 11_777, 11_778, any,
+        0, 3_323, 11_114, 11_777, 12_575, 12_576, 12_576, 12_576, 12_577, any,
     ]);
     FreshInput {
         table,
@@ -361,7 +398,7 @@ pub fn fresh_input(seed: u64) -> FreshInput {
     }
 }
 
-/// A made-up state with number 7 or more and values at every age.
+/// A made-up state with number 7 or more, values at every age, and channels of the last accepted scan.
 fn full_state(random: &mut Random, table: &TableValues, bias: &BiasValues) -> StateValues {
     let mut values = StateValues::fresh(table.encode(), bias.encode());
     let any = random.between(7, u32::MAX as i64) as u32;
@@ -375,26 +412,78 @@ fn full_state(random: &mut Random, table: &TableValues, bias: &BiasValues) -> St
             }
         }
     }
+    values.keep_made_up_channels(random);
     values
 }
 
-/// A state in the layout of an earlier version: its table has no pairs, and in version 1 there is no bias
-/// file.
+/// A state in the layout of an earlier version: it keeps no channels; up to version 3 its table has no pairs, and
+/// in version 1 there is no bias file.
 fn earlier_layout(state: &[u8], version: u8) -> Vec<u8> {
-    let mut bytes = state.to_vec();
+    let mut bytes = state[..11_777].to_vec();
     bytes[10] = version;
-    bytes[12..14].copy_from_slice(&[0x02, 0xe5]);
-    bytes.drain(755..1_418);
+    if version < 4 {
+        bytes[12..14].copy_from_slice(&[0x02, 0xe5]);
+        bytes.drain(755..1_418);
+    }
     if version == 1 {
         bytes.truncate(2_660);
     }
     bytes
 }
 
+/// Every neighbour of a state in what it keeps of the last accepted scan, and whether it is a state: the first
+/// number of 0x37, channels without it, with it but without a scan, and every neighbour of a channel.
+fn kept_neighbours(
+    random: &mut Random,
+    base: &StateValues,
+    fresh: &StateValues,
+) -> Vec<(String, StateValues, bool)> {
+    let mut all = Vec::new();
+    for kept in [0, 1, 2, 3, 255, 256, 1 << 16, 1 << 24, 1 << 31, u32::MAX] {
+        let mut other = base.clone();
+        other.kept = kept;
+        all.push((format!("first number of 0x37 {kept}"), other, kept == 1));
+        let mut other = fresh.clone();
+        other.kept = kept;
+        all.push((format!("fresh, 0x37 with {kept} alone"), other, kept == 0));
+    }
+    let mut nothing_kept = base.clone();
+    nothing_kept.kept = 0;
+    nothing_kept.channels = fresh.channels;
+    all.push(("nothing kept".to_string(), nothing_kept.clone(), true));
+    for (accepted, is_state) in [(0, false), (1, true), (2, false), (255, false)] {
+        let mut other = fresh.clone();
+        other.accepted = accepted;
+        other.kept = base.kept;
+        other.channels = base.channels;
+        all.push((format!("kept, first byte {accepted}"), other, is_state));
+    }
+    for channel in 0..22 {
+        for number in 0..9 {
+            let mut bytes = [0; 36];
+            bytes[4 * number + random.below(4)] = 1;
+            for values in [&nothing_kept, fresh] {
+                let mut other = values.clone();
+                other.channels[channel] = ChannelValues::decode(&bytes);
+                let about = format!("nothing kept, channel {} not 0", channel + 1);
+                all.push((about, other, false));
+            }
+        }
+        for (neighbour, is_state) in channel_neighbours(&channel_in_range(random)) {
+            let mut other = base.clone();
+            other.channels[channel] = neighbour;
+            let about = format!("channel {} kept as {neighbour:?}", channel + 1);
+            all.push((about, other, is_state));
+        }
+    }
+    all
+}
+
 /// Every neighbour of a state: each byte of a tag, a length, the magic number or the version wrong by
 /// one, neighbours of its table and of its bias file, the first byte and the number of 0x32, a value at
 /// each age with each number from 0 to 8 and with no scan, each value at the ends of its range and beside
-/// them, other lengths, and the layouts of earlier versions. The planned answer is 254 or, for a state, 0.
+/// them, those of the channels kept, other lengths, and the layouts of earlier versions. The planned answer is 254
+/// or, for a state, 0.
 pub fn state_neighbours(seed: u64) -> Vec<Neighbour> {
     let mut random = Random::new(seed);
     let table = base_table(seed);
@@ -421,12 +510,13 @@ pub fn state_neighbours(seed: u64) -> Vec<Neighbour> {
         }
     }
     for front in [
-        *b"RDNS\0\0\0\x04",
+        *b"RDNS\0\0\0\x05",
         *b"SNDR\0\0\0\0",
         *b"SNDR\0\0\0\x01",
         *b"SNDR\0\0\0\x02",
         *b"SNDR\0\0\0\x03",
-        *b"SNDR\x04\0\0\0",
+        *b"SNDR\0\0\0\x04",
+        *b"SNDR\x05\0\0\0",
     ] {
         let mut bytes = right.clone();
         bytes[3..11].copy_from_slice(&front);
@@ -445,7 +535,7 @@ pub fn state_neighbours(seed: u64) -> Vec<Neighbour> {
     for neighbour in bias_neighbours(&bias) {
         if neighbour.bytes.len() == 8_451 && (seed == 0 || random.once_in(6)) {
             let mut bytes = right.clone();
-            bytes[3_326..].copy_from_slice(&neighbour.bytes);
+            bytes[3_326..11_777].copy_from_slice(&neighbour.bytes);
             let about = format!("its bias file: {}", neighbour.description);
             push(about, bytes, neighbour.answer == 0);
         }
@@ -500,18 +590,23 @@ pub fn state_neighbours(seed: u64) -> Vec<Neighbour> {
         }
     }
 
+    for (about, values, is_state) in kept_neighbours(&mut random, &base, &fresh) {
+        push(about, values.encode(), is_state);
+    }
+
     for length in [
-        0, 1, 1_418, 2_843, 3_322, 3_323, 3_326, 11_114, 11_773, 11_776,
+        0, 1, 1_418, 2_843, 3_322, 3_323, 3_326, 11_114, 11_776, 11_777, 11_780, 11_784, 12_572,
+        12_575,
     ] {
         push(format!("length {length}"), right[..length].to_vec(), false);
     }
-    for version in [1, 2, 3] {
+    for version in [1, 2, 3, 4] {
         let earlier = earlier_layout(&right, version);
         push(format!("version {version}"), earlier.clone(), false);
-        let longer = [&earlier[..], &random.bytes(11_777 - earlier.len())].concat();
+        let longer = [&earlier[..], &random.bytes(12_576 - earlier.len())].concat();
         push(format!("version {version} and more"), longer, false);
     }
-    for more in [1, 2, 11_777] {
+    for more in [1, 2, 12_576] {
         let bytes = [&right[..], &random.bytes(more)].concat();
         push(format!("length {}", bytes.len()), bytes, true);
     }
@@ -550,7 +645,7 @@ mod tests {
         let mut random = Random::new(3);
         for _ in 0..20 {
             let bytes = some_state(&mut random);
-            assert_eq!(bytes.len(), 11_777);
+            assert_eq!(bytes.len(), 12_576);
             assert_eq!(StateValues::decode(&bytes).encode(), bytes);
         }
     }

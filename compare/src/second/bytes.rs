@@ -11,6 +11,10 @@ pub fn u32_at(bytes: &[u8], at: usize) -> u32 {
     u16_at(bytes, at) as u32 * 65_536 + u16_at(bytes, at + 2) as u32
 }
 
+pub fn u64_at(bytes: &[u8], at: usize) -> u64 {
+    u32_at(bytes, at) as u64 * (1 << 32) + u32_at(bytes, at + 4) as u64
+}
+
 /// Two's complement: from 32,768 on, the number stands for itself less 65,536.
 pub fn i16_at(bytes: &[u8], at: usize) -> i16 {
     let unsigned = u16_at(bytes, at) as i32;
@@ -88,6 +92,8 @@ mod tests {
         assert_eq!(u32_at(&bytes, 0), 2_147_483_649);
         assert_eq!(i32_at(&bytes, 0), -2_147_483_647);
         assert_eq!(i32_at(&bytes, 4), -2);
+        assert_eq!(u64_at(&bytes, 0), 0x8000_0001_ffff_fffe);
+        assert_eq!(u64_at(&bytes, 2), 0x0001_ffff_fffe_7fff);
     }
 
     #[test]

@@ -25,9 +25,13 @@ pub mod shelf;
 
 pub mod scene;
 
+pub mod constants;
+
 pub mod product;
 
 pub mod calibrator;
+
+pub mod lookup;
 
 pub mod state;
 

@@ -1,4 +1,5 @@
 pub mod BenchScan
+pub mod BenchBytes
 pub mod FirstFeed
 pub mod BenchFeed
 pub mod BenchRows

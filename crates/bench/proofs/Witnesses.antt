@@ -1,13 +1,13 @@
 -- Concrete lists that meet the hypotheses of demand 3 and of request W3's laws and show each outcome, so that no statement holds for want of a
 -- case.
-use Prim.Native.Nat.{ℕ, _<_, _≤_}
+use Prim.Native.Nat.{ℕ, _+_, _<_, _≤_}
 use native.Mathlib.Nat.{le-refl}
 use native.Mathlib.Omega.{arith}
 use mathlib.Core.Path.{_≡_, refl, sym, ap, ap₂, subst, _∙_}
 use mathlib.Core.List.{List, [], _∷_}
 use mathlib.Core.Bool.{true, false}
 use lib.ListN.{length, getD, replicate, length-replicate}
-use lib.Dec.{lit<}
+use lib.Dec.{lit<, lit≤}
 use lib.IntN.{ℤ, pos, _*ℤ_}
 use borrow.Author.Tests.{le-leb}
 use Rattle.integers.specs.Fractions.{whole, Equal}
@@ -41,12 +41,18 @@ use Rattle.product.specs.Scenes.{Deliver, sceneIn}
 use Rattle.product.proofs.SceneLaws.{InUnitsBy}
 use Rattle.calibrator.specs.declared.Calibrator.{Calibrator}
 use Rattle.calibrator.specs.Refusals.{verdict, Reply, delivered, refused}
-use Rattle.calibrator.specs.Feeding.{Feed, freshOf, verdictIn, stepBy, step}
+use Rattle.calibrator.specs.Feeding.{Feed, freshOf, verdictIn, stepBy, step, calibratorAfter}
 use Rattle.promise.specs.Roll.{verdictAt}
 use Rattle.promise.specs.Restart.{rolledBy}
 use Rattle.promise.specs.Moments.{meansAt, tnlAt, wordAt, unitsAt, isDelivered}
 use Rattle.promise.specs.Promise.{front, FeedClaim, Alike, Promise}
-use Rattle.promise.specs.SameScenes.{justT, outsideMark, FedChannel, settingsOfFed, momentOfFed, fedFlag, fedNumbers, fedScene}
+use Rattle.scene.specs.BeforeBias.{justT, outsideMark}
+use Rattle.lookup.specs.Lookup.{Found, foundCount}
+use Rattle.promise.specs.CountBehind.{answerOf, AnswerSays}
+use Rattle.promise.specs.OfBytes.{AllOfBytes}
+use Rattle.promise.proofs.CountLaws.{answers-say}
+use Rattle.bench.proofs.BenchBytes.{bench-scan-bytes}
+use Rattle.promise.specs.SameScenes.{FedChannel, settingsOfFed, momentOfFed, fedFlag, fedNumbers, fedScene}
 use Rattle.product.specs.Product.{productSize}
 use Rattle.bench.specs.Bench.{benchTable, perChannel, shelfBytes, benchScan, benchCalibrator, benchSettings, benchMoment, benchChannel, benchT}
 use Rattle.bench.specs.Witnesses.{rejectedScan, flaggedScan, zeros, rejectedList, oneOfEach, replies}
@@ -335,3 +341,15 @@ module _ (earth : ℕ) (buffer : List ℕ) (room : productSize ≤ length buffer
   pub scene-of-h6 : (c : ℕ) (below : c < channels) → fedScene (fed c below) (pos 9999) ≡ outsideMark
   unfolding temperature r floor
   scene-of-h6 c below = scene-by-bench-numbers c below 9999
+
+  -- request W5: after the bench scan, 15,000 is the count behind the T of H4
+  module _ (small : earth ≤ 65535) (c : ℕ) (below : c < channels) where
+    abbrev benchAnswer : ℕ → Found
+    benchAnswer wanted = answerOf (step (calibratorAfter benchCalibrator []) (record { scan = benchScan earth; buffer = buffer }) .calibrator) (c + 1) wanted
+
+    bench-says : (wanted : ℕ) → AnswerSays (fed c below) (benchAnswer wanted) wanted
+    unfolding AllOfBytes
+    bench-says wanted = answers-say (fed c below) (tt, bench-scan-bytes earth small) (fed-flag-zero c below) (record { bytes = zeroBias }) zero-bias-accepted wanted
+
+    pub count-behind-h4 : benchAnswer 565394 ≡ foundCount 15000
+    count-behind-h4 = bench-says 565394 .only 15000 (lit≤ tt) (scene-of-h4 c below)

@@ -1,3 +1,4 @@
 pub mod Verdicts
 pub mod AcceptedLaws
 pub mod StepLaws
+pub mod SoundLaws

@@ -35,7 +35,7 @@ pub fn u32_at(bytes: &[u8], at: usize) -> u32
 }
 
 // The number whose two's complement n is; `half` is the first n that stands for a number below 0.
-fn signed_of(n: u32, half: u32) -> i64
+pub fn signed_of(n: u32, half: u32) -> i64
     requires { ⌜ n < half + half ⌝ }
     ensures { λ r. ⌜ r ≡ signed half n ⌝ }
 {

@@ -3,10 +3,9 @@ use Prim.Native.Nat.{ℕ, _<_, _≤_}
 use native.Mathlib.Omega.{arith}
 use mathlib.Core.Path.{_≡_, refl, sym, ap, subst, _∙_}
 use mathlib.Core.List.{List}
-use mathlib.Core.Bool.{Bool, true, false, _&&_}
-use lib.Dec.{leb, eqb}
+use mathlib.Core.Bool.{Bool, true, false}
 use lib.ListN.{length}
-use borrow.Author.Tests.{lt-ltb, le-ltb, lt-leb, le-leb, ne-eqb}
+use borrow.Author.Tests.{lt-ltb, le-ltb}
 use Rattle.lists.specs.Tests.{Verdict, passes, fails, numberOf, andThen}
 use Rattle.bias.specs.Opening.{bothOpening}
 use Rattle.calibrator.specs.declared.Calibrator.{Calibrator}
@@ -16,8 +15,9 @@ use Rattle.calibrator.specs.declared.Refusal.{Refusal}
 use Rattle.calibrator.specs.declared.Refusal.the-variants.{LengthWrong, FieldWrong, NumberNotAbove, BufferShort}
 use Rattle.calibrator.specs.Refusals.{Reply, refusalNumber, replyOf, replyNumber}
 use Rattle.calibrator.specs.Feeding.{Feed, Stepped, step, freshOf, Leaves}
-use Rattle.state.specs.State.{saved, stateSize, calibratorIn, tableIn, biasIn, windowIn, windowInside, frontIsRight, isState}
-use Rattle.live.specs.Calls.{noState, roomFor, freshVerdict, freshBy, stateBy, leftBy, leftIf, fedState, CallLeaves}
+use Rattle.lookup.specs.Lookup.{Found, refusedWith, countBehind}
+use Rattle.state.specs.State.{saved, stateSize, lastIn, calibratorIn, isState}
+use Rattle.live.specs.Calls.{noState, roomFor, freshVerdict, freshBy, stateBy, leftBy, leftIf, fedState, CallLeaves, foundIf, foundIn, foundNumber, countOr}
 
 -- ---- a fresh state
 
@@ -49,38 +49,9 @@ module _ (table bias state : List ℕ) where
       pub fresh-saved : {left : List ℕ} → left ≡ saved state (freshOf (record { bytes = table }) (record { bytes = bias })) → FreshLeaves table bias state 0 left
       fresh-saved is = fresh-by {verdict = passes} fresh-passes refl is
 
--- ---- which bytes are a state
-
-and-fails : (a : Bool) {b : Bool} → b ≡ false → (a && b) ≡ false
-and-fails true wrong = wrong
-and-fails false wrong = refl
+-- ---- a call of a state, and of bytes that are none
 
 module _ (state : List ℕ) where
-  abbrev inside : Verdict
-  inside = bothOpening (tableIn state) (biasIn state)
-
-  pub short-is-no-state : length state < stateSize → isState state ≡ false
-  unfolding isState
-  short-is-no-state short = rw (lt-leb stateSize (length state) short)
-
-  pub wrong-front-is-no-state : frontIsRight state ≡ false → isState state ≡ false
-  unfolding isState
-  wrong-front-is-no-state wrong = and-fails (leb stateSize (length state)) (rw wrong)
-
-  pub refused-is-no-state : {n : ℕ} → n ≡ numberOf inside → (n ≡ 0 → ⊥) → isState state ≡ false
-  unfolding isState
-  refused-is-no-state is some =
-      and-fails (leb stateSize (length state)) (and-fails (frontIsRight state) (rw (ne-eqb (numberOf inside) 0 (λ none. some (is ∙ none)))))
-
-  pub window-outside-is-no-state : windowInside (windowIn state) ≡ false → isState state ≡ false
-  unfolding isState
-  window-outside-is-no-state outside =
-      and-fails (leb stateSize (length state)) (and-fails (frontIsRight state) (and-fails (eqb (numberOf inside) 0) (rw outside)))
-
-  pub is-state-when : stateSize ≤ length state → frontIsRight state ≡ true → inside ≡ passes → windowInside (windowIn state) ≡ true → isState state ≡ true
-  unfolding isState
-  is-state-when long right passed holds = rw (le-leb stateSize (length state) long, right, passed, holds)
-
   module _ (feed : Feed) where
     pub no-state-leaves : isState state ≡ false → CallLeaves (fedState state feed) noState state (feed .buffer)
     unfolding fedState
@@ -91,6 +62,19 @@ module _ (state : List ℕ) where
         → CallLeaves (fedState state feed) n left buffer
     unfolding fedState
     state-leaves right {n} {left} {buffer} leaves = subst (λ (b : Bool). CallLeaves (leftIf b state feed) n left buffer) (sym right) leaves
+
+  module _ (channel wanted : ℕ) where
+    pub no-state-found : isState state ≡ false → foundIn state channel wanted ≡ refusedWith noState
+    unfolding foundIn
+    no-state-found wrong = ap (λ (b : Bool). foundIf b state channel wanted) wrong
+
+    pub state-found : isState state ≡ true → foundIn state channel wanted ≡ countBehind (lastIn state) channel wanted
+    unfolding foundIn
+    state-found right = ap (λ (b : Bool). foundIf b state channel wanted) right
+
+-- what is answered and left, where the answer is known
+pub found-leaves : {known told : Found} → known ≡ told → (before : ℕ) → (foundNumber known ≡ foundNumber told) × (countOr known before ≡ countOr told before)
+found-leaves is before = (ap foundNumber is, ap (λ (f : Found). countOr f before) is)
 
 -- ---- a feed of the calibrator that was read
 

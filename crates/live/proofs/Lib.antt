@@ -1,3 +1,2 @@
-pub mod HandedLaws
 pub mod CallLaws
 pub mod StateRuns

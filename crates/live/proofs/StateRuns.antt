@@ -2,9 +2,9 @@
 -- every calibrator of a run can be written and is read back.
 use Prim.Native.Nat.{ℕ, _<_, _≤_}
 use native.Mathlib.Nat.{zero-add}
-use mathlib.Core.Path.{_≡_, refl, sym, ap, _∙_}
+use mathlib.Core.Path.{_≡_, refl, sym, ap, subst, _∙_}
 use mathlib.Core.List.{List, [], _∷_, _++_}
-use mathlib.Core.Bool.{Bool}
+use mathlib.Core.Bool.{Bool, false≢true}
 use lib.ListN.{length, getD, take, drop}
 use lib.Seq.{take-at, drop-at}
 use Rattle.lists.specs.Build.{put}
@@ -15,41 +15,47 @@ use Rattle.bias.specs.declared.Bias.{Bias}
 use Rattle.bias.specs.Opening.{AcceptedBias}
 use Rattle.bias.proofs.OpeningLaws.{both-pass}
 use Rattle.record.specs.Record.{scanNumber}
-use Rattle.window.proofs.AgeLaws.{empty-window-range}
+use Rattle.window.specs.Ages.{windowAfter}
+use Rattle.lastscan.specs.LastScan.{nothingKept}
+use Rattle.lookup.specs.Lookup.{countBehind}
 use Rattle.calibrator.specs.declared.Calibrator.{Calibrator}
-use Rattle.calibrator.specs.Feeding.{Feed, settings, verdictIn, freshOf, stepBy, step, calibratorAfter}
+use Rattle.calibrator.specs.Feeding.{Feed, settings, verdictIn, freshOf, stepBy, step, calibratorAfter, Sound}
 use Rattle.calibrator.proofs.Verdicts.{passes-facts}
-use Rattle.calibrator.proofs.AcceptedLaws.{next-window-range}
+use Rattle.calibrator.proofs.SoundLaws.{fresh-is-sound, sound-after-step}
 use Rattle.promise.proofs.HistoryLaws.{kept-shape}
 use Rattle.promise.proofs.Demand.{demand-three}
 use Rattle.state.specs.State.{stateSize, stateOf, calibratorIn, isState}
-use Rattle.live.specs.Calls.{Left, freshBy, stateBy, leftBy, leftIf, fedState}
-use Rattle.live.specs.Runs.{Call, feedsOf, leftAt, stateAfter, firstState, OfBytes, AllOfBytes, CallClaim, DemandThreeByStates}
+use Rattle.promise.specs.OfBytes.{OfBytes, AllOfBytes}
+use Rattle.live.specs.Calls.{Left, freshBy, stateBy, leftBy, leftIf, fedState, foundIn}
+use Rattle.live.specs.Runs.{Call, feedsOf, leftAt, stateAfter, firstState, CallClaim, DemandThreeByStates}
 use Rattle.state.proofs.WindowLaws.{empty-is-shaped, empty-reached-only, next-is-shaped, next-reached-only}
-use Rattle.live.proofs.CallLaws.{fresh-passes}
+use Rattle.live.proofs.CallLaws.{fresh-passes, state-found}
 use Rattle.state.proofs.ReadBack.{Savable, length-state, is-state, read-back}
 
 -- ---- every calibrator of a run can be written
 
 pub fresh-is-savable : (table : Table) → AcceptedTable (table .bytes) → (bias : Bias) → AcceptedBias (bias .bytes) → Savable (freshOf table bias)
-unfolding freshOf
-fresh-is-savable table accepted bias file =
-    record { table = accepted; bias = file; shaped = empty-is-shaped; range = empty-window-range; only = empty-reached-only }
+unfolding freshOf nothingKept
+fresh-is-savable table accepted bias file = record {
+  sound = fresh-is-sound accepted file;
+  shaped = empty-is-shaped;
+  only = empty-reached-only;
+  accepted = λ kept. absurd (false≢true kept);
+}
 
 module _ {c : Calibrator} (savable : Savable c) (feed : Feed) (bytes : (k : ℕ) → getD (feed .scan) k 0 < 256) where
   savable-by : (v : Verdict) → verdictIn c feed ≡ v → Savable (stepBy v c feed .calibrator)
-  unfolding stepBy
+  unfolding stepBy windowAfter
   savable-by (fails n) is = savable
   savable-by passes is =
       let number = scanNumber (feed .scan) in
       let shape = kept-shape (settings c) (feed .scan) in
       let facts = passes-facts (c .window .any) (c .window .last) (feed .scan) (length (feed .buffer)) is in
       record {
-        table = savable .table;
-        bias = savable .bias;
+        sound = subst (λ (v : Verdict). Sound (stepBy v c feed .calibrator)) is (sound-after-step (savable .sound) feed bytes);
         shaped = next-is-shaped number (savable .shaped) shape;
-        range = next-window-range (settings c) (feed .scan) bytes (savable .range) number;
         only = next-reached-only number (savable .shaped) shape (facts .above) (savable .only);
+        accepted = λ _. refl;
       }
 
   pub step-is-savable : Savable (step c feed .calibrator)
@@ -83,13 +89,21 @@ module _ {c : Calibrator} (savable : Savable c) (behind : List ℕ) (feed : Feed
         ap (take stateSize) state-left
         ∙ take-at (stateOf (step c feed .calibrator)) behind stateSize (length-state (step-is-savable savable feed bytes))
 
+-- ---- the count behind a temperature, by the state of c
+
+module _ {c : Calibrator} (savable : Savable c) (behind : List ℕ) (channel wanted : ℕ) where
+  found-as-kept : foundIn (stateOf c ++ behind) channel wanted ≡ countBehind (c .last) channel wanted
+  found-as-kept =
+      state-found (stateOf c ++ behind) channel wanted (is-state savable behind)
+      ∙ ap (λ (d : Calibrator). countBehind (d .last) channel wanted) (read-back savable behind)
+
 -- ---- the state after a list of calls
 
 pub record SavedAs (state : List ℕ) (c : Calibrator) : Type 0 where
   pub same : state ≡ stateOf c
   pub savable : Savable c
 
-pub saved-after : (calls : List Call) → AllOfBytes calls → {state : List ℕ} {c : Calibrator} → SavedAs state c → SavedAs (stateAfter state calls) (calibratorAfter c (feedsOf calls))
+pub saved-after : (calls : List Call) → AllOfBytes (feedsOf calls) → {state : List ℕ} {c : Calibrator} → SavedAs state c → SavedAs (stateAfter state calls) (calibratorAfter c (feedsOf calls))
 unfolding AllOfBytes stateAfter calibratorAfter
 saved-after [] bytes saved-as = saved-as
 saved-after (call ∷ more) bytes saved-as =
@@ -113,7 +127,7 @@ first-is-saved table accepted bias file memory room =
 
 -- ---- demand 3 of such a run
 
-module _ (fresh : Calibrator) (first : List ℕ) (calls : List Call) (saved-as : SavedAs (stateAfter first calls) (calibratorAfter fresh (feedsOf calls))) (call : Call) (bytes : OfBytes call) where
+module _ (fresh : Calibrator) (first : List ℕ) (calls : List Call) (saved-as : SavedAs (stateAfter first calls) (calibratorAfter fresh (feedsOf calls))) (call : Call) (bytes : OfBytes (call .feed)) where
   abbrev reached : Calibrator
   reached = calibratorAfter fresh (feedsOf calls)
 
@@ -133,7 +147,10 @@ module _ (fresh : Calibrator) (first : List ℕ) (calls : List Call) (saved-as :
   }
 
 pub demand-three-by-states : DemandThreeByStates
-demand-three-by-states table accepted bias file memory room calls others bytes = record {
-  each = λ call also. call-claim (freshOf table bias) (firstState table bias memory) calls (saved-after calls bytes (first-is-saved table accepted bias file memory room)) call also;
-  promise = demand-three table accepted bias file (feedsOf calls) (feedsOf others);
-}
+demand-three-by-states table accepted bias file memory room calls others bytes =
+    let saved-as = saved-after calls bytes (first-is-saved table accepted bias file memory room) in
+    record {
+      each = λ call also. call-claim (freshOf table bias) (firstState table bias memory) calls saved-as call also;
+      promise = demand-three table accepted bias file (feedsOf calls) (feedsOf others);
+      counts = λ behind channel wanted. ap (λ (s : List ℕ). foundIn (s ++ behind) channel wanted) (saved-as .same) ∙ found-as-kept (saved-as .savable) behind channel wanted;
+    }

@@ -11,6 +11,7 @@ use Rattle.bias.specs.Opening.{bothOpening}
 use Rattle.calibrator.specs.declared.Calibrator.{Calibrator}
 use Rattle.calibrator.specs.Refusals.{Reply, delivered, refused, replyNumber}
 use Rattle.calibrator.specs.Feeding.{Feed, Stepped, freshOf, step}
+use Rattle.lookup.specs.Lookup.{Found, foundCount, noCount, refusedWith, countBehind}
 use Rattle.state.specs.State.{stateSize, saved, calibratorIn, isState}
 
 -- no state, or none has room
@@ -57,3 +58,23 @@ pub record CallLeaves (left : Left) (answer : ℕ) (state buffer : List ℕ) : T
   pub answer-is : answer ≡ left .answer
   pub state-is : state ≡ left .state
   pub buffer-is : buffer ≡ left .buffer
+
+-- ---- the count behind a temperature (request W5): 254 where the bytes are no state, then as the calibrator answers
+abbrev pub foundIf : Bool → List ℕ → (channel wanted : ℕ) → Found
+foundIf true state channel wanted = countBehind (calibratorIn state .last) channel wanted
+foundIf false state channel wanted = refusedWith noState
+
+unfoldable pub foundIn : List ℕ → (channel wanted : ℕ) → Found
+foundIn state channel wanted = foundIf (isState state) state channel wanted
+
+-- 0 for a count, 253 where no count fits, or the number of the refusal
+abbrev pub foundNumber : Found → ℕ
+foundNumber (foundCount n) = 0
+foundNumber noCount = 253
+foundNumber (refusedWith n) = n
+
+-- the count, or what stood there before where there is none
+abbrev pub countOr : Found → ℕ → ℕ
+countOr (foundCount n) before = n
+countOr noCount before = before
+countOr (refusedWith n) before = before

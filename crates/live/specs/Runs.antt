@@ -1,10 +1,10 @@
 -- Scan by scan, about lists: every run of calls, each with the state that the call before left, is a run of demand 3. A state is its bytes, so
 -- it does not matter where they were copied or saved between two calls, what stands behind them, or what was done with other states.
-use Prim.Native.Nat.{ℕ, _<_, _≤_}
+use Prim.Native.Nat.{ℕ, _≤_}
 use mathlib.Core.Path.{_≡_}
 use mathlib.Core.List.{List, [], _∷_, _++_, map}
 use mathlib.Core.Bool.{true}
-use lib.ListN.{length, getD, take, drop}
+use lib.ListN.{length, take, drop}
 use Rattle.table.specs.declared.Table.{Table}
 use Rattle.table.specs.Settings.{Settings, settingsOf}
 use Rattle.table.specs.Opening.{ages, AcceptedTable}
@@ -14,8 +14,10 @@ use Rattle.calibrator.specs.declared.Calibrator.{Calibrator}
 use Rattle.calibrator.specs.Refusals.{replyNumber}
 use Rattle.calibrator.specs.Feeding.{Feed, freshOf, calibratorAfter, outcomeAfter}
 use Rattle.promise.specs.Promise.{Promise}
+use Rattle.promise.specs.OfBytes.{OfBytes, AllOfBytes}
 use Rattle.state.specs.State.{stateSize, calibratorIn, isState}
-use Rattle.live.specs.Calls.{Left, freshVerdict, freshBy, fedState}
+use Rattle.lookup.specs.Lookup.{countBehind}
+use Rattle.live.specs.Calls.{Left, freshVerdict, freshBy, fedState, foundIn}
 
 -- a call is lent a record and a buffer and, with the state, the bytes behind it
 pub record Call : Type 0 where
@@ -37,14 +39,6 @@ stateAfter state (call ∷ more) = stateAfter (take stateSize (leftAt state call
 abbrev pub firstState : Table → Bias → List ℕ → List ℕ
 firstState table bias memory = take stateSize (freshBy (freshVerdict (table .bytes) (bias .bytes) memory) (table .bytes) (bias .bytes) memory)
 
--- a record of bytes, as every call from C has
-abbrev pub OfBytes : Call → Type 0
-OfBytes call = (k : ℕ) → getD (call .feed .scan) k 0 < 256
-
-unfoldable pub AllOfBytes : List Call → Type 0
-AllOfBytes [] = Unit {0}
-AllOfBytes (call ∷ more) = OfBytes call × AllOfBytes more
-
 -- ---- what is claimed of any call after these calls
 pub record CallClaim (fresh : Calibrator) (first : List ℕ) (calls : List Call) (call : Call) : Type 0 where
   -- what was written is read back as the run's calibrator
@@ -57,12 +51,14 @@ pub record CallClaim (fresh : Calibrator) (first : List ℕ) (calls : List Call)
   pub behind : drop stateSize (leftAt (stateAfter first calls) call .state) ≡ call .behind
 
 pub record RunPromise (fresh : Calibrator) (s : Settings) (bias first : List ℕ) (calls others : List Call) : Type 0 where
-  pub each : (call : Call) → OfBytes call → CallClaim fresh first calls call
+  pub each : (call : Call) → OfBytes (call .feed) → CallClaim fresh first calls call
   pub promise : Promise fresh s bias (feedsOf calls) (feedsOf others)
+  -- and the count behind a temperature is that of the run's calibrator, whatever bytes come behind the state
+  pub counts : (behind : List ℕ) (channel wanted : ℕ) → foundIn (stateAfter first calls ++ behind) channel wanted ≡ countBehind (calibratorAfter fresh (feedsOf calls) .last) channel wanted
 
 -- for every accepted table, every accepted bias file, every memory that a state has room in, every list of calls and every second list
 abbrev pub DemandThreeByStates : Type 0
 DemandThreeByStates =
     (table : Table) → AcceptedTable (table .bytes) → (bias : Bias) → AcceptedBias (bias .bytes) → (memory : List ℕ) → stateSize ≤ length memory
-    → (calls others : List Call) → AllOfBytes calls
+    → (calls others : List Call) → AllOfBytes (feedsOf calls)
     → RunPromise (freshOf table bias) (settingsOf ages (table .bytes)) (bias .bytes) (firstState table bias memory) calls others

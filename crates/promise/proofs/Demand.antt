@@ -27,7 +27,7 @@ use Rattle.promise.specs.Promise.{AcceptedClaim, FeedClaim, Each, Alike,
 use Rattle.promise.proofs.RollLaws.{NumbersTo}
 use Rattle.promise.proofs.SceneClaims.{scene-claim, delivered-in}
 use Rattle.promise.specs.Outcomes.{fedMoment, writtenAt, outcomeBy}
-use Rattle.promise.proofs.AlikeLaws.{SameRolls, same-step}
+use Rattle.promise.proofs.AlikeLaws.{SameRolls, same-rolls, same-outcome}
 use Rattle.promise.proofs.HistoryLaws.{calibratorOf, numbers-joined, calibrator-after, outcome-after, fresh-is-empty-roll}
 
 -- ---- one feed
@@ -85,11 +85,11 @@ module _ (table : Table) (accepted : AcceptedTable (table .bytes)) (bias : Bias)
   alike-from [] (other ∷ rest) roll rolled numbers others same e = absurd e
   alike-from (feed ∷ more) [] roll rolled numbers others same e = absurd e
   alike-from (feed ∷ more) (other ∷ rest) roll rolled numbers others same e =
-      let both = same-step s deliver (verdictAt roll feed) roll rolled feed other (e .0 .scans) same in
+      let outcomes = same-outcome s deliver (verdictAt roll feed) roll rolled feed other (e .0 .scans) same in
       let verdicts = e .0 .verdicts in
-      let rolls = subst (λ (v : Verdict). SameRolls s (joined roll feed) (joinedBy v rolled other)) verdicts (both .rolls) in (
+      let rolls = subst (λ (v : Verdict). SameRolls s (joined roll feed) (joinedBy v rolled other)) verdicts (same-rolls s (verdictAt roll feed) roll rolled feed other (e .0 .scans) same) in (
         subst₂ SameOutcome (sym (outcome-after table bias roll feed numbers))
-            (ap (λ (v : Verdict). outcomeBy s deliver v rolled other) verdicts ∙ sym (outcome-after table bias rolled other others)) (both .outcomes),
+            (ap (λ (v : Verdict). outcomeBy s deliver v rolled other) verdicts ∙ sym (outcome-after table bias rolled other others)) outcomes,
         subst₂ (λ (c d : Calibrator). SameProducts c d more rest) (sym (calibrator-after table bias roll feed numbers)) (sym (calibrator-after table bias rolled other others))
             (alike-from more rest (joined roll feed) (joined rolled other)
             (numbers-joined (verdictAt roll feed) roll feed refl numbers) (numbers-joined (verdictAt rolled other) rolled other refl others) rolls (e .1)),
@@ -101,5 +101,5 @@ demand-three table accepted bias file feeds others =
     let fresh = sym (fresh-is-empty-roll table bias) in
     record {
       each = subst (λ (c : Calibrator). Each (FeedClaim s (bias .bytes)) [] c feeds) fresh (each-from table accepted bias file feeds [] tt);
-      alike = λ e. subst (λ (c : Calibrator). SameProducts c c feeds others) fresh (alike-from table accepted bias file feeds others [] [] tt tt (record { last = refl; scans = refl }) e);
+      alike = λ e. subst (λ (c : Calibrator). SameProducts c c feeds others) fresh (alike-from table accepted bias file feeds others [] [] tt tt (record { last = refl; scans = refl; kept = refl }) e);
     }

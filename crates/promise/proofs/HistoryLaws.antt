@@ -1,7 +1,7 @@
 -- After any list of feeds the calibrator is an equation of the plain roll, so that what each feed leaves is what the roll says.
 use Prim.Native.Nat.{ℕ, _+_, _<_, _≤_}
 use native.Mathlib.Omega.{arith}
-use mathlib.Core.Path.{_≡_, refl, sym, ap, _∙_}
+use mathlib.Core.Path.{_≡_, refl, sym, ap, ap₂, _∙_}
 use mathlib.Core.List.{List, [], _∷_, _++_}
 use mathlib.Core.Bool.{Bool, true, false, cond}
 use lib.Dec.{eqb}
@@ -25,6 +25,8 @@ use Rattle.window.proofs.AgeLaws.{ScanShape, gap-between, window-after-is-aged,
 use Rattle.bias.specs.declared.Bias.{Bias}
 use Rattle.product.specs.Scenes.{Deliver, byBias}
 use Rattle.product.specs.Product.{productLayout, productOf, deliveredCount}
+use Rattle.lastscan.specs.declared.LastScan.{LastScan}
+use Rattle.lastscan.specs.LastScan.{nothingKept, keptOf}
 use Rattle.calibrator.specs.declared.Calibrator.{Calibrator}
 use Rattle.calibrator.specs.Refusals.{delivered}
 use Rattle.calibrator.specs.Feeding.{Feed, keptBy, freshOf, nextWindow, channelsIn, nextChannels, stepBy, step}
@@ -39,8 +41,13 @@ use Rattle.promise.specs.Outcomes.{fedMoment, outcomeBy, outcomeAt}
 abbrev pub scansOf : Settings → Roll → ℕ → Scan
 scansOf s roll k = scanOfAge s roll (lastNumber roll) k
 
+abbrev pub lastOf : Settings → Roll → LastScan
+lastOf s [] = nothingKept
+lastOf s (scan ∷ roll) = keptOf (channelsAt s (fedMoment roll scan))
+
 abbrev pub calibratorOf : Table → Bias → Roll → Calibrator
-calibratorOf table bias roll = record { table = table; bias = bias; window = windowOf (begun roll) (lastNumber roll) (scansOf (settingsOf ages (table .bytes)) roll) }
+calibratorOf table bias roll =
+    let s = settingsOf ages (table .bytes) in record { table = table; bias = bias; window = windowOf (begun roll) (lastNumber roll) (scansOf s roll); last = lastOf s roll }
 
 pub window-same : (any : Bool) (last : ℕ) (f g : ℕ → Scan) → ((k : ℕ) → k < ages → f k ≡ g k) → windowOf any last f ≡ windowOf any last g
 unfolding windowOf
@@ -108,7 +115,7 @@ module _ (table : Table) (bias : Bias) where
 
     calibrator-by : (v : Verdict) → verdictAt roll feed ≡ v → stepBy v before feed .calibrator ≡ calibratorOf table bias (joinedBy v roll feed)
     unfolding stepBy
-    calibrator-by passes e = ap (λ (w : Window). record { table = table; bias = bias; window = w }) (next-window e)
+    calibrator-by passes e = ap₂ (λ (w : Window) (all : List Channel). record { table = table; bias = bias; window = w; last = keptOf all }) (next-window e) (next-channels e)
     calibrator-by (fails n) e = refl
 
     outcome-by : (v : Verdict) → verdictAt roll feed ≡ v → stepBy v before feed .outcome ≡ outcomeBy tableSettings biasDelivery v roll feed

@@ -8,3 +8,4 @@ pub mod Demand
 pub mod Plain
 pub mod WithoutBiasLaws
 pub mod SameScenesLaws
+pub mod CountLaws

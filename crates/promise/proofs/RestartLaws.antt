@@ -151,14 +151,14 @@ module _ (table : Table) (bias : Bias) where
   abbrev ofBias : ℕ → Deliver
   ofBias = byBias (bias .bytes)
 
-  after-is : (feeds : List Feed) (roll : Roll) → NumbersTo roll (lastNumber roll) → calibratorAfter (calibratorOf table bias roll) feeds ≡ calibratorOf table bias (rolledBy roll feeds)
+  pub after-is : (feeds : List Feed) (roll : Roll) → NumbersTo roll (lastNumber roll) → calibratorAfter (calibratorOf table bias roll) feeds ≡ calibratorOf table bias (rolledBy roll feeds)
   unfolding calibratorAfter rolledBy
   after-is [] roll numbers = refl
   after-is (feed ∷ more) roll numbers =
       ap (λ (c : Calibrator). calibratorAfter c more) (calibrator-after table bias roll feed numbers)
       ∙ after-is more (joined roll feed) (numbers-joined (verdictAt roll feed) roll feed refl numbers)
 
-  numbers-by : (feeds : List Feed) (roll : Roll) → NumbersTo roll (lastNumber roll) → NumbersTo (rolledBy roll feeds) (lastNumber (rolledBy roll feeds))
+  pub numbers-by : (feeds : List Feed) (roll : Roll) → NumbersTo roll (lastNumber roll) → NumbersTo (rolledBy roll feeds) (lastNumber (rolledBy roll feeds))
   unfolding rolledBy
   numbers-by [] roll numbers = numbers
   numbers-by (feed ∷ more) roll numbers = numbers-by more (joined roll feed) (numbers-joined (verdictAt roll feed) roll feed refl numbers)

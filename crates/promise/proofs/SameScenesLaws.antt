@@ -27,15 +27,12 @@ use Rattle.calibrator.specs.Feeding.{Outcome}
 use Rattle.promise.specs.Restart.{rolledBy}
 use Rattle.promise.specs.Outcomes.{outcomeBy}
 use Rattle.promise.specs.Moments.{Moment, meansAt, shelfAt, tnlAt, dAt, nAt, tAt, countAt, productAt}
-use Rattle.promise.specs.SameScenes.{TOrMark, justT, flaggedMark, outsideMark, guardMark, flagAt, sceneBeforeBias, sixNumbers, settingsOfFed, momentOfFed, fedSceneAt, SameScenes, Shows, ScenesShown}
+use Rattle.scene.specs.BeforeBias.{TOrMark, justT, flaggedMark, outsideMark, guardMark, byTests}
+use Rattle.promise.specs.SameScenes.{flagAt, sceneBeforeBias, sixNumbers, settingsOfFed, momentOfFed, fedSceneAt, SameScenes, Shows, ScenesShown}
 use Rattle.promise.proofs.SceneClaims.{scene, flag-zero-scene, flagged-scene, n-is-numerator, count, word-is, word-delivered, scene-claim}
 use Rattle.promise.proofs.RestartLaws.{left-by}
 
--- ---- a scene by its tests, of the numbers that T is made of
-abbrev pub byTests : (tc rise tnl d n : ℤ) → TOrMark
-byTests tc rise tnl d n = let t = temperature tc rise tnl d n in cond (outside n d) outsideMark (cond (guardFails t) guardMark (justT t))
-
--- by the six numbers, in their order
+-- ---- a scene by the six numbers, in their order
 abbrev pub byNumbers : List ℤ → ℤ → TOrMark
 byNumbers numbers count =
     let at : ℕ → ℤ = λ k. getD numbers k (pos 0) in

@@ -7,3 +7,5 @@ pub mod Outcomes
 pub mod WithoutBias
 pub mod SameScenes
 pub mod BeforeBias
+pub mod OfBytes
+pub mod CountBehind

@@ -18,19 +18,13 @@ use Rattle.window.specs.Means.{Tw, Tc, flagOf}
 use Rattle.scene.specs.declared.Scene.the-variants.{Flagged, Outside, Guard}
 use Rattle.scene.specs.Scene.{bits}
 use Rattle.scene.specs.Temperature.{outside, guardFails}
+use Rattle.scene.specs.BeforeBias.{TOrMark, justT, flaggedMark, outsideMark, guardMark}
 use Rattle.product.specs.Scenes.{byBias}
 use Rattle.calibrator.specs.Feeding.{Feed, freshOf, outcomeAfter}
 use Rattle.promise.specs.Roll.{verdictAt}
 use Rattle.promise.specs.Restart.{rolledBy}
 use Rattle.promise.specs.Outcomes.{fedMoment}
 use Rattle.promise.specs.Moments.{Moment, meansAt, tnlAt, dAt, nOf, tOf, countAt, wordAt, isDelivered, unitsAt}
-
--- a scene before scan bias: T, in units, or a mark
-pub data TOrMark : Type 0 where
-  justT : ℤ → TOrMark
-  flaggedMark : TOrMark
-  outsideMark : TOrMark
-  guardMark : TOrMark
 
 -- ---- channel c of a moment
 module _ (s : Settings) (m : Moment) (c : ℕ) where

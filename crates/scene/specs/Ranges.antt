@@ -1,5 +1,5 @@
 -- Document 01, "Scenes": the ranges that the functions keep to. A reader of the promises can leave this out.
-use lib.IntN.{pos}
+use lib.IntN.{pos, _*ℤ_}
 use lib.Signed.{_≤ℤ_, _<ℤ_}
 use Rattle.integers.specs.Bounds.{Bounded}
 use Rattle.scene.specs.declared.Constants.{Constants}
@@ -17,3 +17,5 @@ pub record ConstantsRange (k : Constants) : Type 0 where
   pub slope-high : k .slope ≤ℤ pos 780300
   pub base-low : pos 0 ≤ℤ k .base
   pub base-high : k .base ≤ℤ pos 51136960500
+  -- the mean warm count is at most 65,535 above the mean cold count
+  pub reach : k .d ≤ℤ (pos 65535 *ℤ k .slope)

@@ -1,14 +1,16 @@
 -- What the functions on the way to a scene give. A reader of the promises can leave this out: `sceneOf` does not cite it.
 use Prim.Native.Nat.{ℕ, _-_, _*_, _/_, _%_}
-use mathlib.Core.Bool.{Bool, _||_}
+use mathlib.Core.Bool.{Bool, _||_, cond}
 use lib.Dec.{ltb}
-use lib.IntN.{ℤ, pos, natAbs, _+ℤ_, _-ℤ_, _*ℤ_}
-use lib.Signed.{_≤ℤ_}
+use lib.IntN.{ℤ, pos, negℤ, natAbs, _+ℤ_, _-ℤ_, _*ℤ_}
+use lib.Signed.{_≤ℤ_, ltZ}
 use mathlib.Core.Path.{_≡_}
 use Rattle.integers.specs.Rounding.{floor, r}
 use Rattle.integers.specs.Bounds.{Bounded}
 use Rattle.scene.specs.declared.Constants.{Constants}
 use Rattle.scene.specs.declared.Scale.{Scale}
+use Rattle.scene.specs.Temperature.{temperature}
+use Rattle.scene.specs.Scene.{numerator}
 
 -- 2^63 / D, cut off; the greatest rest of 2^32 that 33 times the rise does not fill; the greatest N with 4N at most 5D; 4 TNL;
 -- Tc - 2^20; and 2D
@@ -40,3 +42,9 @@ pub record BiasNumbers (factor offset : ℕ) : Type 0 where
 -- r(X(65,536 - X) × 4 TNL, 2^32), where the curve is 4 TNL
 abbrev pub bendOf : (X curve : ℤ) → ℤ
 bendOf x curve = r (x *ℤ (pos 65536 -ℤ x) *ℤ curve) (pos 4294967296)
+
+-- T of a count; where N is negative a number below every wanted T, and where 4N exceeds 5D one above every wanted T
+unfoldable pub placed : Constants → ℕ → ℤ
+placed k count =
+    let n = numerator k count in
+    cond (ltZ n (pos 0)) (negℤ (pos 1)) (cond (ltZ (pos 5 *ℤ k .d) (pos 4 *ℤ n)) (pos 4294967296) (temperature (k .tc) (k .rise) (k .tnl) (k .d) n))

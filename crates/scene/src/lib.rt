@@ -9,7 +9,7 @@ ghost use Rattle.integers.specs.Bounds.{Bounded};
 ghost use Rattle.scene.specs.Temperature.{temperature, biased};
 ghost use Rattle.scene.specs.Scene.{kelvin, value, bits, sceneOf};
 ghost use Rattle.scene.specs.Ranges.{ConstantsRange};
-ghost use Rattle.scene.specs.Steps.{scaleOf, Bracket, unsureOf, c0Of, eOf, BiasNumbers, bendOf};
+ghost use Rattle.scene.specs.Steps.{scaleOf, Bracket, unsureOf, c0Of, eOf, BiasNumbers, bendOf, placed};
 use integers::floor_div;
 use integers::round_natural;
 use integers::round_small;
@@ -167,6 +167,22 @@ pub fn scene_of(k: Constants, scale: Scale, factor: u32, offset: u32, count: u16
     }
     let t = units(k, scale, n);
     Scene::Kelvin(kelvin_of(biased_units(t, factor, offset)))
+}
+
+// T of a count before scan bias, for one who looks for a T: -1 where N is negative and 2^32 where 4N exceeds 5D, so that it never falls from a
+// count to the next.
+pub fn placed_units(k: Constants, scale: Scale, count: u16) -> i64
+    requires { ⌜ ConstantsRange k × (scale ≡ scaleOf k) ⌝ }
+    ensures { λ t. ⌜ t ≡ placed k count ⌝ }
+{
+    let n = k.slope * count as i64 - k.base;
+    if n < 0 {
+        return -1;
+    }
+    if scale.top < n {
+        return 4_294_967_296;
+    }
+    units(k, scale, n)
 }
 
 fn value_of(s: Scene) -> f32

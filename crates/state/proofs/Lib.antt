@@ -2,5 +2,6 @@ pub mod NumberLaws
 pub mod InsideLaws
 pub mod WindowLaws
 pub mod ReadBack
+pub mod StateLaws
 pub mod PutLaws
 pub mod FrontLaws

@@ -12,6 +12,8 @@ use Rattle.fields.proofs.FieldBytes.{headBytes}
 use Rattle.table.specs.Opening.{tableSize}
 use Rattle.bias.specs.Bias.{biasSize}
 use Rattle.window.specs.declared.Window.{Window}
+use Rattle.lastscan.specs.Numbers.{lastNumbers, numbersOf}
+use Rattle.lastscan.proofs.NumberLaws.{length-numbers}
 use Rattle.calibrator.specs.declared.Calibrator.{Calibrator}
 use Rattle.state.specs.State.{saved, countsKept, kelvinsKept, stateLayout, stateSize, frontBytes, lastBytes, numberBytes, stateOf}
 use Rattle.state.specs.Steps.{windowStart, windowBytes}
@@ -101,8 +103,8 @@ module _ (w : Window) (shaped : Shaped w) where
 
 -- ---- a whole state
 
-in-a-row : (f t l w c k b : List ℕ) → f ++ t ++ (l ++ w ++ c ++ k) ++ b ≡ f ++ (t ++ (l ++ (w ++ (c ++ (k ++ (b ++ []))))))
-in-a-row f t l w c k b = simp (append-assoc, append-nil)
+in-a-row : (f t l w c k b n : List ℕ) → f ++ t ++ (l ++ w ++ c ++ k) ++ b ++ n ≡ f ++ (t ++ (l ++ (w ++ (c ++ (k ++ (b ++ (n ++ [])))))))
+in-a-row f t l w c k b n = simp (append-assoc, append-nil)
 
 module _ (c : Calibrator) (shaped : Shaped (c .window)) (table-long : length (c .table .bytes) ≡ tableSize) (bias-long : length (c .bias .bytes) ≡ biasSize) where
   abbrev frontField : List ℕ
@@ -114,29 +116,39 @@ module _ (c : Calibrator) (shaped : Shaped (c .window)) (table-long : length (c 
   abbrev biasField : List ℕ
   biasField = fieldBytes (fieldAt stateLayout 6) (c .bias .bytes)
 
-  fields-are-state : frontField ++ tableField ++ windowBytes (c .window) ++ biasField ≡ stateOf c
+  abbrev keptField : List ℕ
+  keptField = fieldBytes (fieldAt stateLayout 7) (numberBytes (numbersOf (c .last)))
+
+  fields-are-state : frontField ++ tableField ++ windowBytes (c .window) ++ biasField ++ keptField ≡ stateOf c
   unfolding windowBytes stateOf
   fields-are-state =
       let w = c .window in
-      in-a-row frontField tableField (lastField w shaped) (warmField w shaped) (coldField w shaped) (kelvinField w shaped) biasField
+      in-a-row frontField tableField (lastField w shaped) (warmField w shaped) (coldField w shaped) (kelvinField w shaped) biasField keptField
 
   table-ends : length (frontField ++ tableField) ≡ windowStart
   table-ends = omega (arith, table-long)
 
-  pub state-put : (out : List ℕ) → stateSize ≤ length out → {a b d e : List ℕ} → a ≡ put out 0 frontField
+  kelvin-ends : length (frontField ++ tableField ++ windowBytes (c .window)) ≡ fieldStart stateLayout 6
+  kelvin-ends = omega (arith, length-append (frontField ++ tableField) (windowBytes (c .window)), table-ends, window-ends (c .window) shaped)
+
+  bias-ends : length (frontField ++ tableField ++ windowBytes (c .window) ++ biasField) ≡ fieldStart stateLayout 7
+  bias-ends = omega (arith, length-append (frontField ++ tableField ++ windowBytes (c .window)) biasField, kelvin-ends, bias-long)
+
+  pub state-put : (out : List ℕ) → stateSize ≤ length out → {a b d e f : List ℕ} → a ≡ put out 0 frontField
       → b ≡ put a (fieldStart stateLayout 1) (fieldBytes (field 0x31 (length (c .table .bytes))) (c .table .bytes))
       → d ≡ put b windowStart (windowBytes (c .window))
       → e ≡ put d (fieldStart stateLayout 6) (fieldBytes (field 0x36 (length (c .bias .bytes))) (c .bias .bytes))
-      → e ≡ saved out c
-  state-put out room {a} {b} {d} front table window bias =
+      → f ≡ put e (fieldStart stateLayout 7) (fieldBytes (field 0x37 (4 * length (numbersOf (c .last)))) (numberBytes (numbersOf (c .last))))
+      → f ≡ saved out c
+  state-put out room {a} {b} {d} {e} front table window bias kept =
       let second : b ≡ put out 0 (frontField ++ tableField) =
       put-behind-put out frontField tableField 0 (fieldStart stateLayout 1) refl (omega arith) front
       (table ∙ ap (put a (fieldStart stateLayout 1)) (field-sized 0x31 (c .table .bytes) table-long)) in
       let third : d ≡ put out 0 (frontField ++ tableField ++ windowBytes (c .window)) =
       put-behind-put out (frontField ++ tableField) (windowBytes (c .window)) 0 windowStart (omega (arith, table-ends)) (omega arith) second window in
-      put-behind-put out (frontField ++ tableField ++ windowBytes (c .window)) biasField 0 (fieldStart stateLayout 6)
-      (omega (arith, length-append (frontField ++ tableField) (windowBytes (c .window)), table-ends, window-ends (c .window) shaped))
-      (omega arith)
-      third
-      (bias ∙ ap (put d (fieldStart stateLayout 6)) (field-sized 0x36 (c .bias .bytes) bias-long))
+      let fourth : e ≡ put out 0 (frontField ++ tableField ++ windowBytes (c .window) ++ biasField) =
+      put-behind-put out (frontField ++ tableField ++ windowBytes (c .window)) biasField 0 (fieldStart stateLayout 6) (omega (arith, kelvin-ends)) (omega arith) third
+      (bias ∙ ap (put d (fieldStart stateLayout 6)) (field-sized 0x36 (c .bias .bytes) bias-long)) in
+      put-behind-put out (frontField ++ tableField ++ windowBytes (c .window) ++ biasField) keptField 0 (fieldStart stateLayout 7) (omega (arith, bias-ends)) (omega arith) fourth
+      (kept ∙ ap (put e (fieldStart stateLayout 7)) (number-field 0x37 lastNumbers (numbersOf (c .last)) (length-numbers (c .last))))
       ∙ ap (put out 0) fields-are-state

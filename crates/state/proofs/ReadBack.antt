@@ -13,31 +13,31 @@ use Rattle.fields.specs.Numbers.{u32Bytes}
 use Rattle.fields.specs.Fields.{layoutIsRight, fieldAt, valueIn, laidOut}
 use Rattle.fields.proofs.LayoutLaws.{field-inside}
 use Rattle.fields.proofs.FieldBytes.{u32-that-stands, Sized, laid-out-before, length-laid-out, value-stands, laid-out-is-right}
-use Rattle.table.specs.Opening.{AcceptedTable}
 use Rattle.table.proofs.OpeningLaws.{accepted-length}
-use Rattle.bias.specs.Opening.{AcceptedBias}
 use Rattle.bias.proofs.OpeningLaws.{accepted-bias-length}
-use Rattle.window.specs.Ranges.{WindowRange}
+use Rattle.lastscan.specs.Numbers.{lastNumbers, numbersOf}
+use Rattle.lastscan.proofs.NumberLaws.{length-numbers, last-read-back, last-is-inside}
 use Rattle.calibrator.specs.declared.Calibrator.{Calibrator}
-use Rattle.state.specs.State.{magic, version, countsKept, kelvinsKept, stateLayout, stateSize, frontBytes, numberBytes, valuesOf, stateOf, at, tableIn, biasIn, windowIn, calibratorIn, frontIsRight, isState}
+use Rattle.calibrator.specs.Feeding.{Sound}
+use Rattle.state.specs.State.{magic, version, countsKept, kelvinsKept, stateLayout, stateSize, frontBytes, numberBytes, valuesOf, stateOf, at, tableIn, biasIn, windowIn, lastNumbersIn, calibratorIn, frontIsRight, isState}
 use Rattle.state.proofs.NumberLaws.{length-number-bytes, numbers-read-back}
 use Rattle.state.proofs.InsideLaws.{ReachedOnly, window-is-inside}
 use Rattle.state.proofs.WindowLaws.{Shaped}
 
 -- what a calibrator keeps to that can be written
 pub record Savable (c : Calibrator) : Type 0 where
-  pub table : AcceptedTable (c .table .bytes)
-  pub bias : AcceptedBias (c .bias .bytes)
+  pub sound : Sound c
   pub shaped : Shaped (c .window)
-  pub range : WindowRange (c .window)
   pub only : ReachedOnly (c .window)
+  -- a scan is kept only where one was accepted
+  pub accepted : c .last .any ≡ true → c .window .any ≡ true
 
 bytes-sized : (numbers : List ℕ) {n : ℕ} → length numbers ≡ n → length (numberBytes numbers) ≡ 4 * n
 bytes-sized numbers long = length-number-bytes numbers ∙ ap (λ (n : ℕ). 4 * n) long
 
 module _ {c : Calibrator} (savable : Savable c) where
   sized : Sized stateLayout (valuesOf c)
-  sized = (refl, (accepted-length (savable .table), (refl, (bytes-sized (c .window .warm) (savable .shaped .warm), (bytes-sized (c .window .cold) (savable .shaped .cold), (bytes-sized (c .window .kelvin) (savable .shaped .kelvin), (accepted-bias-length (savable .bias), tt)))))))
+  sized = (refl, (accepted-length (savable .sound .table), (refl, (bytes-sized (c .window .warm) (savable .shaped .warm), (bytes-sized (c .window .cold) (savable .shaped .cold), (bytes-sized (c .window .kelvin) (savable .shaped .kelvin), (accepted-bias-length (savable .sound .bias), (bytes-sized (numbersOf (c .last)) (length-numbers (c .last)), tt))))))))
 
   pub length-state : length (stateOf c) ≡ stateSize
   unfolding stateOf
@@ -54,17 +54,17 @@ module _ {c : Calibrator} (savable : Savable c) where
     state-reaches : stateSize ≤ length state
     state-reaches = omega (arith, length-append (stateOf c) behind, length-state)
 
-    stands : (k : ℕ) → k < 7 → StandsAt state (at k) (getD (valuesOf c) k [])
+    stands : (k : ℕ) → k < 8 → StandsAt state (at k) (getD (valuesOf c) k [])
     stands k below = rw state-is-laid-out (value-stands stateLayout (valuesOf c) behind sized k below)
 
-    value-read-back : (k : ℕ) → k < 7 → length (getD (valuesOf c) k []) ≡ fieldAt stateLayout k .size → valueIn stateLayout k state ≡ getD (valuesOf c) k []
+    value-read-back : (k : ℕ) → k < 8 → length (getD (valuesOf c) k []) ≡ fieldAt stateLayout k .size → valueIn stateLayout k state ≡ getD (valuesOf c) k []
     value-read-back k below long = part-that-stands state _ (at k) _ 0 long (omega (arith, state-reaches, field-inside stateLayout k below)) (stands k below)
 
     pub table-read-back : tableIn state ≡ c .table .bytes
-    table-read-back = value-read-back 1 (lit< tt) (accepted-length (savable .table))
+    table-read-back = value-read-back 1 (lit< tt) (accepted-length (savable .sound .table))
 
     pub bias-read-back : biasIn state ≡ c .bias .bytes
-    bias-read-back = value-read-back 6 (lit< tt) (accepted-bias-length (savable .bias))
+    bias-read-back = value-read-back 6 (lit< tt) (accepted-bias-length (savable .sound .bias))
 
     last-stands : StandsAt state (at 2 + 1) (u32Bytes (c .window .last))
     last-stands =
@@ -91,8 +91,11 @@ module _ {c : Calibrator} (savable : Savable c) where
           numbers-read-back (c .window .kelvin) state (at 5) kelvinsKept (savable .shaped .kelvin) (stands 5 (lit< tt)),
         )
 
+    numbers-are-read-back : lastNumbersIn state ≡ numbersOf (c .last)
+    numbers-are-read-back = numbers-read-back (numbersOf (c .last)) state (at 7) lastNumbers (length-numbers (c .last)) (stands 7 (lit< tt))
+
     pub read-back : calibratorIn state ≡ c
-    read-back = rw (table-read-back, bias-read-back, window-read-back)
+    read-back = rw (table-read-back, bias-read-back, window-read-back, numbers-are-read-back, last-read-back (savable .sound .last))
 
     any-is-bit : (any : Bool) → leb (cond any 1 0) 1 ≡ true
     any-is-bit true = refl
@@ -113,4 +116,15 @@ module _ {c : Calibrator} (savable : Savable c) where
     pub is-state : isState state ≡ true
     unfolding isState
     is-state =
-        rw (le-leb stateSize (length state) state-reaches, front-is-right, table-read-back, savable .table .accepted, bias-read-back, savable .bias .accepted, window-read-back, window-is-inside (savable .range) (savable .only))
+        rw (
+          le-leb stateSize (length state) state-reaches,
+          front-is-right,
+          table-read-back,
+          savable .sound .table .accepted,
+          bias-read-back,
+          savable .sound .bias .accepted,
+          window-read-back,
+          window-is-inside (savable .sound .window) (savable .only),
+          numbers-are-read-back,
+          last-is-inside (savable .sound .last) (c .window .any) (savable .accepted),
+        )

@@ -17,6 +17,8 @@ use Rattle.bias.specs.Bias.{biasSize}
 use Rattle.bias.specs.Opening.{bothOpening}
 use Rattle.acceptance.specs.Kept.{mostKept, leastKelvin, mostKelvin}
 use Rattle.window.specs.declared.Window.{Window}
+use Rattle.lastscan.specs.declared.LastScan.{LastScan}
+use Rattle.lastscan.specs.Numbers.{lastNumbers, numbersOf, lastBy, lastInside}
 use Rattle.calibrator.specs.declared.Calibrator.{Calibrator}
 
 -- `SNDR` in ASCII
@@ -25,7 +27,7 @@ magic = 0x534E4452
 
 -- the version of this layout, and of the rules by which its values were kept
 abbrev pub version : ℕ
-version = 4
+version = 5
 
 -- how many numbers the window keeps of each side, and of the thermometers
 abbrev pub countsKept : ℕ
@@ -35,10 +37,11 @@ abbrev pub kelvinsKept : ℕ
 kelvinsKept = thermometers * ages
 
 -- 0x30 has the magic number and the version; 0x31 the table; 0x32 a byte, 1 if a scan was accepted and else 0, and the number of the last;
--- 0x33 and 0x34 what the window keeps of the warm and of the cold counts, 0x35 of the thermometers, as u32, age by age; 0x36 the bias file
+-- 0x33 and 0x34 what the window keeps of the warm and of the cold counts, 0x35 of the thermometers, as u32, age by age; 0x36 the bias file;
+-- 0x37 the numbers of what is kept of the last accepted scan (request W5), as u32
 abbrev pub stateLayout : List Field
 stateLayout =
-    field 0x30 8 ∷ field 0x31 tableSize ∷ field 0x32 5 ∷ field 0x33 (4 * countsKept) ∷ field 0x34 (4 * countsKept) ∷ field 0x35 (4 * kelvinsKept) ∷ field 0x36 biasSize ∷ []
+    field 0x30 8 ∷ field 0x31 tableSize ∷ field 0x32 5 ∷ field 0x33 (4 * countsKept) ∷ field 0x34 (4 * countsKept) ∷ field 0x35 (4 * kelvinsKept) ∷ field 0x36 biasSize ∷ field 0x37 (4 * lastNumbers) ∷ []
 
 abbrev pub stateSize : ℕ
 stateSize = layoutSize stateLayout
@@ -57,7 +60,7 @@ lastBytes any last = cond any 1 0 ∷ u32Bytes last
 abbrev pub valuesOf : Calibrator → List (List ℕ)
 valuesOf c =
     frontBytes ∷ c .table .bytes ∷ lastBytes (c .window .any) (c .window .last)
-    ∷ numberBytes (c .window .warm) ∷ numberBytes (c .window .cold) ∷ numberBytes (c .window .kelvin) ∷ c .bias .bytes ∷ []
+    ∷ numberBytes (c .window .warm) ∷ numberBytes (c .window .cold) ∷ numberBytes (c .window .kelvin) ∷ c .bias .bytes ∷ numberBytes (numbersOf (c .last)) ∷ []
 
 unfoldable pub stateOf : Calibrator → List ℕ
 stateOf c = laidOut stateLayout (valuesOf c) []
@@ -90,8 +93,14 @@ windowIn state = record {
   kelvin = numbersAt state (at 5) kelvinsKept;
 }
 
+abbrev pub lastNumbersIn : List ℕ → List ℕ
+lastNumbersIn state = numbersAt state (at 7) lastNumbers
+
+abbrev pub lastIn : List ℕ → LastScan
+lastIn state = lastBy (lastNumbersIn state)
+
 abbrev pub calibratorIn : List ℕ → Calibrator
-calibratorIn state = record { table = record { bytes = tableIn state }; bias = record { bytes = biasIn state }; window = windowIn state }
+calibratorIn state = record { table = record { bytes = tableIn state }; bias = record { bytes = biasIn state }; window = windowIn state; last = lastIn state }
 
 -- ---- which bytes are a state
 -- how many ages can have samples: the scan of age k has the number last - k, and before the first accepted scan there is none
@@ -115,8 +124,8 @@ unfoldable pub frontIsRight : List ℕ → Bool
 frontIsRight state =
     allHold (layoutIsRight state 0 stateLayout ∷ eqb (u32At state (at 0)) magic ∷ eqb (u32At state (at 0 + 4)) version ∷ leb (getD state (at 2) 0) 1 ∷ [])
 
--- the bytes reach to the end of a state; its front is right; its table and its bias file would be accepted; its window's values are in their
--- ranges. Bytes behind a state are not looked at.
+-- the bytes reach to the end of a state; its front is right; its table and its bias file would be accepted; its window's values and the
+-- numbers of its last accepted scan are in their ranges. Bytes behind a state are not looked at.
 unfoldable pub isState : List ℕ → Bool
 isState state =
-    allHold (leb stateSize (length state) ∷ frontIsRight state ∷ eqb (numberOf (bothOpening (tableIn state) (biasIn state))) 0 ∷ windowInside (windowIn state) ∷ [])
+    allHold (leb stateSize (length state) ∷ frontIsRight state ∷ eqb (numberOf (bothOpening (tableIn state) (biasIn state))) 0 ∷ windowInside (windowIn state) ∷ lastInside (windowIn state .any) (lastNumbersIn state) ∷ [])

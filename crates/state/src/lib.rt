@@ -1,21 +1,25 @@
 // A calibrator as bytes: written into a caller's memory, and read back from it.
 ghost use mathlib.Core.Path.{_≡_};
-ghost use mathlib.Core.Bool.{_||_, _&&_, cond};
+ghost use mathlib.Core.Bool.{true, _||_, _&&_, cond};
 ghost use Prim.Native.Nat.{_+_, _*_, _<_, _≤_};
 ghost use lib.Dec.{eqb};
-ghost use lib.ListN.{length};
+ghost use lib.ListN.{length, take, drop};
 ghost use Rattle.lists.specs.Build.{put};
 ghost use Rattle.fields.specs.Fields.{headSize, fieldBytes};
 ghost use Rattle.thermometer.specs.Reading.{fromTo};
 ghost use Rattle.table.specs.Opening.{AcceptedTable};
 ghost use Rattle.bias.specs.Opening.{AcceptedBias};
 ghost use Rattle.calibrator.specs.Steps.{calibratorWith};
-ghost use Rattle.state.specs.State.{countsKept, kelvinsKept, stateSize, saved, numberBytes, frontBytes, lastBytes, numbersAt, windowIn, agesReached, numbersInside, windowInside, frontIsRight};
+ghost use Rattle.lastscan.specs.Ranges.{LastRange};
+ghost use Rattle.lastscan.specs.Numbers.{lastInside};
+ghost use Rattle.state.specs.State.{countsKept, kelvinsKept, stateSize, saved, numberBytes, frontBytes, lastBytes, numbersAt, tableIn, biasIn, windowIn, lastNumbersIn, lastIn, agesReached, numbersInside, windowInside, frontIsRight, isState};
 ghost use Rattle.state.specs.Steps.{windowStart, windowBytes};
 use bias::BIAS_SIZE;
 use fields::HEAD;
 use instrument::CHANNELS;
 use instrument::THERMOMETERS;
+use lastscan::LAST_NUMBERS;
+use lastscan::LastScan;
 use table::AGES;
 use table::TABLE_SIZE;
 use window::COUNTS_KEPT;
@@ -25,12 +29,12 @@ use window::Window;
 // `SNDR` in ASCII, and the version of the layout and of the rules.
 const MAGIC: u32 = 0x534E4452;
 
-const VERSION: u32 = 4;
+const VERSION: u32 = 5;
 
 // The layout, and where the value of each field starts.
-const TAGS: [u8; 7] = [0x30, 0x31, 0x32, 0x33, 0x34, 0x35, 0x36];
+const TAGS: [u8; 8] = [0x30, 0x31, 0x32, 0x33, 0x34, 0x35, 0x36, 0x37];
 
-const SIZES: [u16; 7] = [
+const SIZES: [u16; 8] = [
     8,
     TABLE_SIZE as u16,
     5,
@@ -38,11 +42,12 @@ const SIZES: [u16; 7] = [
     4 * COUNTS_KEPT as u16,
     4 * KELVINS_KEPT as u16,
     BIAS_SIZE as u16,
+    4 * LAST_NUMBERS as u16,
 ];
 
 const FRONT_AT: usize = HEAD;
 
-pub const TABLE_AT: usize = FRONT_AT + SIZES[0] as usize + HEAD;
+const TABLE_AT: usize = FRONT_AT + SIZES[0] as usize + HEAD;
 
 const LAST_AT: usize = TABLE_AT + SIZES[1] as usize + HEAD;
 
@@ -52,9 +57,11 @@ const COLD_AT: usize = WARM_AT + SIZES[3] as usize + HEAD;
 
 const KELVIN_AT: usize = COLD_AT + SIZES[4] as usize + HEAD;
 
-pub const BIAS_AT: usize = KELVIN_AT + SIZES[5] as usize + HEAD;
+const BIAS_AT: usize = KELVIN_AT + SIZES[5] as usize + HEAD;
 
-pub const STATE_SIZE: usize = BIAS_AT + SIZES[6] as usize;
+const KEPT_AT: usize = BIAS_AT + SIZES[6] as usize + HEAD;
+
+pub const STATE_SIZE: usize = KEPT_AT + SIZES[7] as usize;
 
 // What a thermometer and a side keep, where they keep anything.
 const LEAST_KELVIN: u32 = 1_118_822 - 245_760;
@@ -134,6 +141,52 @@ fn numbers_at(state: &[u8], at: usize, out: &mut [u32])
     }
 }
 
+// As many bytes as `out` has, from place `at` on.
+fn bytes_at(state: &[u8], at: usize, out: &mut [u8])
+    requires { ⌜ at + length (now out) ≤ length (now state) ⌝ }
+    ensures { λ _. ⌜ now (out .exit) ≡ take (length (now (out .entry))) (drop at (now (state .entry))) ⌝ }
+{
+    let end = at + out.len();
+    bytes::copy(&state[at..end], out);
+}
+
+// The table and the bias file of a state, as bytes of their own.
+pub fn table_in(state: &[u8]) -> [u8; TABLE_SIZE]
+    requires { ⌜ stateSize ≤ length (now state) ⌝ }
+    ensures { λ r. ⌜ r ≡ tableIn (now (state .entry)) ⌝ }
+{
+    let mut table = [0u8; TABLE_SIZE];
+    bytes_at(state, TABLE_AT, &mut table);
+    table
+}
+
+pub fn bias_in(state: &[u8]) -> [u8; BIAS_SIZE]
+    requires { ⌜ stateSize ≤ length (now state) ⌝ }
+    ensures { λ r. ⌜ r ≡ biasIn (now (state .entry)) ⌝ }
+{
+    let mut bias = [0u8; BIAS_SIZE];
+    bytes_at(state, BIAS_AT, &mut bias);
+    bias
+}
+
+fn last_numbers_in(state: &[u8]) -> [u32; LAST_NUMBERS]
+    requires { ⌜ stateSize ≤ length (now state) ⌝ }
+    ensures { λ r. ⌜ r ≡ lastNumbersIn (now (state .entry)) ⌝ }
+{
+    let mut numbers = [0u32; LAST_NUMBERS];
+    numbers_at(state, KEPT_AT, &mut numbers);
+    numbers
+}
+
+// What is kept of the last accepted scan.
+pub fn last_in(state: &[u8]) -> LastScan
+    requires { ⌜ (stateSize ≤ length (now state)) × (lastInside (windowIn (now state) .any) (lastNumbersIn (now state)) ≡ true) ⌝ }
+    ensures { λ r. ⌜ r ≡ lastIn (now (state .entry)) ⌝ }
+{
+    let numbers = last_numbers_in(state);
+    lastscan::last_by(&numbers)
+}
+
 pub fn window_in(state: &[u8]) -> Window
     requires { ⌜ stateSize ≤ length (now state) ⌝ }
     ensures { λ r. ⌜ r ≡ windowIn (now (state .entry)) ⌝ }
@@ -155,7 +208,7 @@ pub fn window_in(state: &[u8]) -> Window
 
 // ---- which bytes are a state
 
-pub fn front_is_right(state: &[u8]) -> bool
+fn front_is_right(state: &[u8]) -> bool
     requires { ⌜ stateSize ≤ length (now state) ⌝ }
     ensures { λ b. ⌜ b ≡ frontIsRight (now (state .entry)) ⌝ }
 {
@@ -212,7 +265,7 @@ fn last_inside(any: bool, last: u32) -> bool
     last == 0
 }
 
-pub fn window_inside(window: Window) -> bool
+fn window_inside(window: Window) -> bool
     ensures { λ b. ⌜ b ≡ windowInside window ⌝ }
 {
     let any = window.any;
@@ -231,6 +284,39 @@ pub fn window_inside(window: Window) -> bool
     lists::all_hold(&tests)
 }
 
+// The window's values, and what is kept of the last accepted scan.
+fn values_inside(state: &[u8]) -> bool
+    requires { ⌜ stateSize ≤ length (now state) ⌝ }
+    ensures { λ b. ⌜ b ≡ (windowInside (windowIn (now (state .entry))) && lastInside (windowIn (now (state .entry)) .any) (lastNumbersIn (now (state .entry)))) ⌝ }
+{
+    let window = window_in(state);
+    if !window_inside(window) {
+        return false;
+    }
+    let numbers = last_numbers_in(state);
+    lastscan::last_inside(window.any, &numbers)
+}
+
+pub fn is_state(state: &[u8]) -> bool
+    ensures { λ b. ⌜ b ≡ isState (now (state .entry)) ⌝ }
+{
+    if state.len() < STATE_SIZE {
+        return false;
+    }
+    if !front_is_right(state) {
+        return false;
+    }
+    let opened = table::open(&state[TABLE_AT..TABLE_AT + TABLE_SIZE]).answer;
+    if table::refusal_number(opened) != 0 {
+        return false;
+    }
+    let second = bias::open(&state[BIAS_AT..BIAS_AT + BIAS_SIZE]).answer;
+    if table::refusal_number(second) != 0 {
+        return false;
+    }
+    values_inside(state)
+}
+
 // ---- a whole state
 
 // Fields 0x32 to 0x35.
@@ -245,17 +331,19 @@ fn put_window(out: &mut [u8], any: bool, last: u32, warm: &[u32], cold: &[u32], 
     put_number_field(out, KELVIN_AT - HEAD, TAGS[5], kelvin);
 }
 
-// The calibrator that has this table, this bias file and this window, in the place of the state.
-pub fn save(state: &mut [u8], table: &[u8], bias: &[u8], window: Window)
-    requires { ⌜ (stateSize ≤ length (now state)) × AcceptedTable (now table) × AcceptedBias (now bias) ⌝ }
-    ensures { λ _. ⌜ now (state .exit) ≡ saved (now (state .entry)) (calibratorWith (now (table .entry)) (now (bias .entry)) window) ⌝ }
+// The calibrator that has this table, this bias file, this window and this last accepted scan, in the place of the state.
+pub fn save(state: &mut [u8], table: &[u8], bias: &[u8], window: Window, last: LastScan)
+    requires { ⌜ (stateSize ≤ length (now state)) × AcceptedTable (now table) × AcceptedBias (now bias) × LastRange last ⌝ }
+    ensures { λ _. ⌜ now (state .exit) ≡ saved (now (state .entry)) (calibratorWith (now (table .entry)) (now (bias .entry)) window last) ⌝ }
 {
     let front = front_bytes();
     let warm = window.warm;
     let cold = window.cold;
     let kelvin = window.kelvin;
+    let numbers = lastscan::numbers_of(last);
     put_field(state, 0, TAGS[0], &front);
     put_field(state, TABLE_AT - HEAD, TAGS[1], table);
     put_window(state, window.any, window.last, &warm, &cold, &kelvin);
     put_field(state, BIAS_AT - HEAD, TAGS[6], bias);
+    put_number_field(state, KEPT_AT - HEAD, TAGS[7], &numbers);
 }

@@ -6,7 +6,7 @@ ghost use Rattle.thermometer.specs.Reading.{number, reading};
 ghost use Rattle.table.specs.Opening.{opening};
 ghost use Rattle.bias.specs.Opening.{biasOpening, bothOpening};
 ghost use Rattle.state.specs.State.{stateSize};
-ghost use Rattle.live.specs.Calls.{freshVerdict, freshBy, fedState, CallLeaves};
+ghost use Rattle.live.specs.Calls.{freshVerdict, freshBy, fedState, CallLeaves, foundIn, foundNumber, countOr};
 ghost use Rattle.station.specs.Calls.{libraryVersion, unitsOr, answersBy, buffersBy};
 use calibrator::Calibrator;
 use thermometer::Reading;
@@ -120,10 +120,24 @@ pub extern "C" fn sounder_feed(state: &mut [u8], scan: &[u8], buffer: &mut [u8])
     live::feed(state, scan, buffer)
 }
 
+// Request W5, the count behind a temperature, by the calibrator of a state: 0 and the count; or 254 where the bytes are no state, 11, 12, or 253
+// where no count fits, and the count as it was.
+#[no_mangle]
+pub extern "C" fn sounder_count_behind(
+    state: &[u8],
+    channel: u32,
+    wanted: u32,
+    count: &mut u16,
+) -> u8
+    ensures { λ n. ⌜ (n ≡ foundNumber (foundIn (now (state .entry)) channel wanted)) × (now (count .exit) ≡ countOr (foundIn (now (state .entry)) channel wanted) (now (count .entry))) ⌝ }
+{
+    live::count_behind(state, channel, wanted, count)
+}
+
 // 10,000 times the major, 100 times the minor and once the patch number of the version.
 #[no_mangle]
 pub extern "C" fn sounder_version() -> u32
     ensures { λ n. ⌜ n ≡ libraryVersion ⌝ }
 {
-    40_000
+    50_000
 }

@@ -30,7 +30,7 @@ use Rattle.table.specs.ValueRanges.{Between, ThermometerRange, ShelfPair
 both : (a b : Bool) → (a && b) ≡ true → (a ≡ true) × (b ≡ true)
 both a b holds = and-eq-true-iff a b .0 holds
 
-in-between : {low high x : ℕ} → fromTo low high x ≡ true → Between low high x
+pub in-between : {low high x : ℕ} → fromTo low high x ≡ true → Between low high x
 in-between {low} {high} {x} holds =
     let tests = both (leb low x) (leb x high) holds in
     (leb-true low x (tests .0), leb-true x high (tests .1))

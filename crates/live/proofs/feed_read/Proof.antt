@@ -16,7 +16,7 @@ feed-with-requires : tie.Need-feed-with-requires
 feed-with-requires c κs =
     let read = c .before .before in
     let start = read .before .before .before .before .before .before in
-    (start .pre .0, start .pre .2, start .pre .1, read .pairs-of .ensures)
+    (start .pre .0, start .pre .2, start .pre .1, read .pairs-of .ensures, start .pre .3)
 
 answer-number-requires : tie.Need-answer-number-requires
 answer-number-requires c κs = search needs

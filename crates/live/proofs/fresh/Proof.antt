@@ -1,5 +1,5 @@
 -- `fresh` meets its contract: each return is what the tests that led there make of `freshVerdict`.
-use mathlib.Core.Path.{_≡_, ap, _∙_}
+use mathlib.Core.Path.{_≡_, sym, ap₂, subst, _∙_}
 use denote.Ref.{now}
 use Rattle.lists.specs.Tests.{passes}
 use Rattle.table.specs.Opening.{opening}
@@ -7,6 +7,9 @@ use Rattle.table.proofs.OpenedLaws.{number-is, passed-at-zero}
 use Rattle.bias.specs.Opening.{biasOpening}
 use Rattle.bias.proofs.OpeningLaws.{both-by-table, both-by-bias, both-pass}
 use Rattle.window.specs.declared.Window.{Window}
+use Rattle.lastscan.specs.declared.LastScan.{LastScan}
+use Rattle.lastscan.specs.Ranges.{LastRange}
+use Rattle.lastscan.proofs.NumberLaws.{nothing-in-range}
 use Rattle.calibrator.specs.Feeding.{freshOf}
 use Rattle.calibrator.specs.Steps.{calibratorWith}
 use Rattle.state.specs.State.{saved}
@@ -73,14 +76,18 @@ returns-3 c =
 empty-requires : tie.Need-empty-requires
 empty-requires c κs = search needs
 
+nothing-kept-requires : tie.Need-nothing-kept-requires
+nothing-kept-requires c κs = search needs
+
 save-requires : tie.Need-save-requires
 save-requires c κs =
-    let room = c .before .before in
+    let room = c .before .before .before in
     let second = room .before in
     let first = second .before .before .before in (
       room .if3 .left,
       record { accepted = table-passed first },
       record { accepted = bias-passed second; bytes = λ k. first .before .before .before .before .shared-slice-known2 .given k .fits },
+      subst LastRange (sym (c .nothing-kept .ensures)) nothing-in-range,
     )
 
 same-length : tie.Need-same-length
@@ -89,14 +96,15 @@ same-length c = search needs
 returns-4 : tie.Need-returns-4
 unfolding freshOf
 returns-4 c =
-    let made = c .before .before .before in
+    let kept = c .before .before .before in
+    let made = kept .before in
     let room = made .before .before in
     let second = room .before in
     let first = second .before .before .before in
     let a = startOf first .args in
     let leaves =
     fresh-saved (now (a .table)) (now (a .bias)) (now (a .state)) (both-pass _ _ (table-passed first) (bias-passed second)) (room .if3 .left)
-    (c .before .before .save .ensures ∙ ap (λ (w : Window). saved (now (a .state)) (calibratorWith (now (a .table)) (now (a .bias)) w)) (made .empty .ensures)) in
+    (c .before .before .save .ensures ∙ ap₂ (λ (w : Window) (l : LastScan). saved (now (a .state)) (calibratorWith (now (a .table)) (now (a .bias)) w l)) (made .empty .ensures) (kept .nothing-kept .ensures)) in
     (leaves .answer-is, leaves .state-is)
 
 pub fresh-spec : {M : Type 1} → statement M
@@ -111,6 +119,7 @@ fresh-spec =
     returns-2
     returns-3
     empty-requires
+    nothing-kept-requires
     save-requires
     same-length
     returns-4)

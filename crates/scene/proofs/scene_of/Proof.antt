@@ -1,47 +1,27 @@
 -- `scene::scene_of` meets its contract. N and T are read back as themselves, so both tests are those of the definition, and each branch
 -- gives the scene of its outcome; T is in its range, so that the guard cannot fail and what is delivered is a natural number below 2^24.
 -- Assumes nothing.
-use mathlib.Core.Path.{_≡_, ap, _∙_}
-use mathlib.Core.Bool.{Bool, true, false}
-use Prim.Native.Nat.{ℕ, _≤_}
+use mathlib.Core.Path.{_≡_, _∙_}
+use mathlib.Core.Bool.{true, false}
+use Prim.Native.Nat.{_≤_}
 use native.Mathlib.Omega.{arith}
-use lib.Dec.{lit<}
-use lib.IntN.{ℤ, pos, _-ℤ_, _*ℤ_}
+use lib.IntN.{ℤ, pos, _*ℤ_}
 use lib.Signed.{_≤ℤ_, ltZ}
 use mir.Syntax.{w32, w64}
-use mir.Val.{SFits, toZ, ofZ}
+use mir.Val.{toZ, ofZ}
 use borrow.Author.Needs.{needs}
-use Rattle.integers.specs.Rounding.{floor}
 use Rattle.integers.proofs.Naturals.{natural-at-most}
 use Rattle.integers.proofs.Order.{ltZ-false, at-most-trans, at-most-fails}
-use Rattle.integers.proofs.Machine.{bounded-fits, reads-back, natural-reads-back, floor-fits}
-use Rattle.scene.proofs.Bracket.{top-test}
-use Rattle.scene.specs.declared.Constants.{Constants}
+use Rattle.integers.proofs.Machine.{reads-back}
 use Rattle.scene.specs.Scene.{numerator}
-use Rattle.scene.specs.Ranges.{ConstantsRange}
-use Rattle.scene.proofs.Ranges.{SceneRange, scene-range, slope-bounded, base-bounded, slope-count-bounded, numerator-bounded, five-d-bounded}
+use Rattle.scene.proofs.Ranges.{SceneRange, scene-range}
+use Rattle.scene.proofs.Numerator.{slope-count-is, slope-count-fits, n-is, n-fits, above-test}
 use Rattle.scene.proofs.BiasRange.{temperature-low, temperature-high, biased-low, biased-high}
 use Rattle.scene.specs.Temperature.{biased}
 use Rattle.scene.specs.Steps.{c0Of, eOf}
 use Rattle.scene.proofs.Delivered.{temperatureOf, scene-negative, scene-above, scene-kelvin}
 use Rattle.scene.proofs.scene_of.Statement.{statement}
 use Rattle.scene.proofs.scene_of.Tie as tie
-
-module _ {k : Constants} {count : ℕ} (h : ConstantsRange k) (c : count ≤ 65535) where
-  slope-count-is : toZ w64 (ofZ w64 (k .slope)) *ℤ toZ w64 count ≡ k .slope *ℤ pos count
-  slope-count-is = rw (reads-back (bounded-fits (slope-bounded h) (lit< tt)), natural-reads-back count (omega arith))
-
-  slope-count-fits : SFits w64 (k .slope *ℤ pos count)
-  slope-count-fits = bounded-fits (slope-count-bounded h c) (lit< tt)
-
-  n-is : toZ w64 (ofZ w64 (toZ w64 (ofZ w64 (k .slope)) *ℤ toZ w64 count)) -ℤ toZ w64 (ofZ w64 (k .base)) ≡ numerator k count
-  n-is = rw (slope-count-is, reads-back slope-count-fits, reads-back (bounded-fits (base-bounded h) (lit< tt)))
-
-  n-fits : SFits w64 (numerator k count)
-  n-fits = bounded-fits (numerator-bounded h c) (lit< tt)
-
-  top-fits : SFits w64 (floor (pos 5 *ℤ k .d) (pos 4))
-  top-fits = floor-fits (pos 4) (bounded-fits (five-d-bounded h) (lit< tt))
 
 -- what is delivered, by the two numbers
 abbrev deliver : tie.Start → ℤ → ℤ
@@ -69,20 +49,10 @@ n-not-negative c =
     let s = c .before .before .before .before .before in
     rw (n-is (s .pre .0) (count-high s), reads-back (n-fits (s .pre .0) (count-high s))) at (c .if1 .left)
 
--- what the machine's second test says
-n-test : (s : tie.Start) (b : Bool)
-    → ltZ (toZ w64 (ofZ w64 (s .args .scale .top))) (toZ w64 (ofZ w64 (toZ w64 (ofZ w64 (toZ w64 (ofZ w64 (s .args .k .slope)) *ℤ toZ w64 (s .args .count))) -ℤ toZ w64 (ofZ w64 (s .args .k .base))))) ≡ b
-    → ltZ (pos 5 *ℤ s .args .k .d) (pos 4 *ℤ numerator (s .args .k) (s .args .count)) ≡ b
-n-test s b e =
-    let h = s .pre .0 in
-    let c = count-high s in
-    let top : s .args .scale .top ≡ floor (pos 5 *ℤ s .args .k .d) (pos 4) = ap (λ s. s .top) (s .pre .1) in
-    top-test (s .args .k .d) (numerator (s .args .k) (s .args .count)) b (rw (top, reads-back (top-fits h c), n-is h c, reads-back (n-fits h c)) at e)
-
 returns-2 : tie.Need-returns-2
 returns-2 c =
     let s = c .before .before .before .before .before .before .before .before in
-    scene-above (deliver s) (s .args .k) (s .args .count) (n-not-negative (c .before .before .before)) (n-test s true (c .if2 .taken))
+    scene-above (deliver s) (s .args .k) (s .args .count) (n-not-negative (c .before .before .before)) (above-test (s .pre .0) (count-high s) (s .args .scale) (s .pre .1) true (c .if2 .taken))
 
 module _ (c : tie.Else2) where
   abbrev start : tie.Start
@@ -92,7 +62,7 @@ module _ (c : tie.Else2) where
   n-low = n-not-negative (c .before .before .before)
 
   n-high : ltZ (pos 5 *ℤ start .args .k .d) (pos 4 *ℤ numerator (start .args .k) (start .args .count)) ≡ false
-  n-high = n-test start false (c .if2 .left)
+  n-high = above-test (start .pre .0) (count-high start) (start .args .scale) (start .pre .1) false (c .if2 .left)
 
 units-requires : tie.Need-units-requires
 units-requires c κs =

@@ -13,8 +13,8 @@ use Rattle.bias.proofs.OpeningLaws.{both-by-table, both-by-bias, both-pass}
 use Rattle.calibrator.specs.declared.Calibrator.{Calibrator}
 use Rattle.calibrator.specs.Feeding.{freshOf}
 use Rattle.feeds.specs.FeedList.{answerAt, buffersAt}
-use Rattle.live.proofs.HandedLaws.{handed-table, handed-table-accepted, handed-bias, handed-bias-accepted}
 use Rattle.station.specs.Calls.{freshUnder, answersBy, buffersBy}
+use Rattle.station.proofs.HandedLaws.{handed-table, handed-table-accepted, handed-bias, handed-bias-accepted}
 use borrow.Author.Needs.{needs}
 use Rattle.station.proofs.sounder_feed_all.Statement.{statement}
 use Rattle.station.proofs.sounder_feed_all.Tie as tie

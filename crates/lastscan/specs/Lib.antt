@@ -1,0 +1,3 @@
+pub mod LastScan
+pub mod Ranges
+pub mod Numbers

@@ -1,0 +1,22 @@
+-- Document 01, "Scenes": a scene before scan bias.
+use Prim.Native.Nat.{ℕ}
+use mathlib.Core.Bool.{cond}
+use lib.IntN.{ℤ}
+use Rattle.scene.specs.declared.Constants.{Constants}
+use Rattle.scene.specs.Temperature.{outside, temperature, guardFails}
+use Rattle.scene.specs.Scene.{numerator}
+
+-- T, in units, or a mark
+pub data TOrMark : Type 0 where
+  justT : ℤ → TOrMark
+  flaggedMark : TOrMark
+  outsideMark : TOrMark
+  guardMark : TOrMark
+
+-- by its tests, of the numbers that T is made of
+abbrev pub byTests : (tc rise tnl d n : ℤ) → TOrMark
+byTests tc rise tnl d n = let t = temperature tc rise tnl d n in cond (outside n d) outsideMark (cond (guardFails t) guardMark (justT t))
+
+-- of a count in a channel with flag 0
+abbrev pub beforeBias : Constants → ℕ → TOrMark
+beforeBias k count = byTests (k .tc) (k .rise) (k .tnl) (k .d) (numerator k count)
