@@ -4,7 +4,8 @@
  *
  * CHANNEL is counted from 1, T is in units of 1/4096 K before scan bias. One line is printed: `channel 1 T 565394
  * count 15000`, or `channel 1 T 565395 no count`, or `channel 23 T 565394 refused 11`. A refused table or bias file
- * gives its line alone, with its name: `bias.bin refused 3`. Refused records are passed over: they change nothing. */
+ * gives its line alone, with its name: `bias.bin refused 3`. Refused records are passed over: they change nothing.
+ * The exit status is 1 after a refused table or bias file, 2 where something cannot be read, else 0. */
 #include <stdio.h>
 #include <stdlib.h>
 

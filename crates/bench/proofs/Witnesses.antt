@@ -1,5 +1,5 @@
--- Concrete lists that meet the hypotheses of demand 3 and of request W3's laws and show each outcome, so that no statement holds for want of a
--- case.
+-- Concrete lists that meet the hypotheses of demand 3 and of the laws of requests W3 and W5 and show each outcome, so that no statement holds for
+-- want of a case.
 use Prim.Native.Nat.{ℕ, _+_, _<_, _≤_}
 use native.Mathlib.Nat.{le-refl}
 use native.Mathlib.Omega.{arith}
@@ -8,6 +8,7 @@ use mathlib.Core.List.{List, [], _∷_}
 use mathlib.Core.Bool.{true, false}
 use lib.ListN.{length, getD, replicate, length-replicate}
 use lib.Dec.{lit<, lit≤}
+use lib.Signed.{_<ℤ_}
 use lib.IntN.{ℤ, pos, _*ℤ_}
 use borrow.Author.Tests.{le-leb}
 use Rattle.integers.specs.Fractions.{whole, Equal}
@@ -41,7 +42,7 @@ use Rattle.product.specs.Scenes.{Deliver, sceneIn}
 use Rattle.product.proofs.SceneLaws.{InUnitsBy}
 use Rattle.calibrator.specs.declared.Calibrator.{Calibrator}
 use Rattle.calibrator.specs.Refusals.{verdict, Reply, delivered, refused}
-use Rattle.calibrator.specs.Feeding.{Feed, freshOf, verdictIn, stepBy, step, calibratorAfter}
+use Rattle.calibrator.specs.Feeding.{Feed, freshOf, verdictIn, stepBy, step, calibratorAfter, AllOfBytes}
 use Rattle.promise.specs.Roll.{verdictAt}
 use Rattle.promise.specs.Restart.{rolledBy}
 use Rattle.promise.specs.Moments.{meansAt, tnlAt, wordAt, unitsAt, isDelivered}
@@ -49,8 +50,7 @@ use Rattle.promise.specs.Promise.{front, FeedClaim, Alike, Promise}
 use Rattle.scene.specs.BeforeBias.{justT, outsideMark}
 use Rattle.lookup.specs.Lookup.{Found, foundCount}
 use Rattle.promise.specs.CountBehind.{answerOf, AnswerSays}
-use Rattle.promise.specs.OfBytes.{AllOfBytes}
-use Rattle.promise.proofs.CountLaws.{answers-say}
+use Rattle.promise.proofs.CountLaws.{answers-say, higher-count-higher-t}
 use Rattle.bench.proofs.BenchBytes.{bench-scan-bytes}
 use Rattle.promise.specs.SameScenes.{FedChannel, settingsOfFed, momentOfFed, fedFlag, fedNumbers, fedScene}
 use Rattle.product.specs.Product.{productSize}
@@ -349,7 +349,16 @@ module _ (earth : ℕ) (buffer : List ℕ) (room : productSize ≤ length buffer
 
     bench-says : (wanted : ℕ) → AnswerSays (fed c below) (benchAnswer wanted) wanted
     unfolding AllOfBytes
-    bench-says wanted = answers-say (fed c below) (tt, bench-scan-bytes earth small) (fed-flag-zero c below) (record { bytes = zeroBias }) zero-bias-accepted wanted
+    bench-says wanted = answers-say (fed c below) (tt, bench-scan-bytes earth small) (fed-flag-zero c below) (record { bytes = zeroBias }) wanted
 
     pub count-behind-h4 : benchAnswer 565394 ≡ foundCount 15000
     count-behind-h4 = bench-says 565394 .only 15000 (lit≤ tt) (scene-of-h4 c below)
+
+    -- and H5, the cold mean itself, has the lower T of the two
+    pub scene-of-h5 : fedScene (fed c below) (pos 10000) ≡ justT (pos 11166)
+    unfolding temperature r floor
+    scene-of-h5 = scene-by-bench-numbers c below 10000
+
+    pub h5-below-h4 : pos 11166 <ℤ pos 565394
+    unfolding AllOfBytes
+    h5-below-h4 = higher-count-higher-t (fed c below) (tt, bench-scan-bytes earth small) 10000 15000 (pos 11166) (pos 565394) (lit< tt) scene-of-h5 (scene-of-h4 c below)

@@ -9,7 +9,7 @@ use Rattle.scene.specs.declared.Channel.{Channel}
 use Rattle.product.specs.Scenes.{noChannel}
 use Rattle.lastscan.specs.declared.LastScan.{LastScan}
 
--- before the first accepted scan: nothing reads its channels
+-- before the first accepted scan: its channels are all 0, and no answer depends on them
 unfoldable pub nothingKept : LastScan
 nothingKept = record { any = false; channels = replicate channels noChannel }
 

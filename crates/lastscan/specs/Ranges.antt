@@ -1,4 +1,4 @@
--- What is kept of the last accepted scan keeps to. A reader of the promises can leave this out.
+-- The ranges that what is kept of the last accepted scan is in. A reader of the promises can leave this out.
 use Prim.Native.Nat.{ℕ, _<_, _≤_}
 use mathlib.Core.Path.{_≡_}
 use mathlib.Core.Bool.{true, false}

@@ -35,14 +35,7 @@ fn no_channel() -> Channel
 {
     Channel {
         flag: 0,
-        constants: Constants {
-            tc: 0,
-            rise: 0,
-            tnl: 0,
-            d: 0,
-            slope: 0,
-            base: 0,
-        },
+        constants: scene::no_constants(),
     }
 }
 

@@ -17,7 +17,7 @@ use Rattle.calibrator.specs.Refusals.{Reply, refusalNumber, replyOf, replyNumbe
 use Rattle.calibrator.specs.Feeding.{Feed, Stepped, step, freshOf, Leaves}
 use Rattle.lookup.specs.Lookup.{Found, refusedWith, countBehind}
 use Rattle.state.specs.State.{saved, stateSize, lastIn, calibratorIn, isState}
-use Rattle.live.specs.Calls.{noState, roomFor, freshVerdict, freshBy, stateBy, leftBy, leftIf, fedState, CallLeaves, foundIf, foundIn, foundNumber, countOr}
+use Rattle.live.specs.Calls.{noState, roomFor, freshVerdict, freshBy, stateBy, leftBy, leftIf, fedState, CallLeaves, foundWhen, foundIn, foundNumber, countOr}
 
 -- ---- a fresh state
 
@@ -66,11 +66,11 @@ module _ (state : List ℕ) where
   module _ (channel wanted : ℕ) where
     pub no-state-found : isState state ≡ false → foundIn state channel wanted ≡ refusedWith noState
     unfolding foundIn
-    no-state-found wrong = ap (λ (b : Bool). foundIf b state channel wanted) wrong
+    no-state-found wrong = ap (λ (b : Bool). foundWhen b state channel wanted) wrong
 
     pub state-found : isState state ≡ true → foundIn state channel wanted ≡ countBehind (lastIn state) channel wanted
     unfolding foundIn
-    state-found right = ap (λ (b : Bool). foundIf b state channel wanted) right
+    state-found right = ap (λ (b : Bool). foundWhen b state channel wanted) right
 
 -- what is answered and left, where the answer is known
 pub found-leaves : {known told : Found} → known ≡ told → (before : ℕ) → (foundNumber known ≡ foundNumber told) × (countOr known before ≡ countOr told before)

@@ -19,13 +19,12 @@ use Rattle.window.specs.Ages.{windowAfter}
 use Rattle.lastscan.specs.LastScan.{nothingKept}
 use Rattle.lookup.specs.Lookup.{countBehind}
 use Rattle.calibrator.specs.declared.Calibrator.{Calibrator}
-use Rattle.calibrator.specs.Feeding.{Feed, settings, verdictIn, freshOf, stepBy, step, calibratorAfter, Sound}
+use Rattle.calibrator.specs.Feeding.{Feed, settings, verdictIn, freshOf, stepBy, step, calibratorAfter, Sound, OfBytes, AllOfBytes}
 use Rattle.calibrator.proofs.Verdicts.{passes-facts}
 use Rattle.calibrator.proofs.SoundLaws.{fresh-is-sound, sound-after-step}
 use Rattle.promise.proofs.HistoryLaws.{kept-shape}
 use Rattle.promise.proofs.Demand.{demand-three}
 use Rattle.state.specs.State.{stateSize, stateOf, calibratorIn, isState}
-use Rattle.promise.specs.OfBytes.{OfBytes, AllOfBytes}
 use Rattle.live.specs.Calls.{Left, freshBy, stateBy, leftBy, leftIf, fedState, foundIn}
 use Rattle.live.specs.Runs.{Call, feedsOf, leftAt, stateAfter, firstState, CallClaim, DemandThreeByStates}
 use Rattle.state.proofs.WindowLaws.{empty-is-shaped, empty-reached-only, next-is-shaped, next-reached-only}
@@ -43,7 +42,7 @@ fresh-is-savable table accepted bias file = record {
   accepted = λ kept. absurd (false≢true kept);
 }
 
-module _ {c : Calibrator} (savable : Savable c) (feed : Feed) (bytes : (k : ℕ) → getD (feed .scan) k 0 < 256) where
+module _ {c : Calibrator} (savable : Savable c) (feed : Feed) (bytes : OfBytes feed) where
   savable-by : (v : Verdict) → verdictIn c feed ≡ v → Savable (stepBy v c feed .calibrator)
   unfolding stepBy windowAfter
   savable-by (fails n) is = savable

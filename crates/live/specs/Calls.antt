@@ -60,12 +60,12 @@ pub record CallLeaves (left : Left) (answer : ℕ) (state buffer : List ℕ) : T
   pub buffer-is : buffer ≡ left .buffer
 
 -- ---- the count behind a temperature (request W5): 254 where the bytes are no state, then as the calibrator answers
-abbrev pub foundIf : Bool → List ℕ → (channel wanted : ℕ) → Found
-foundIf true state channel wanted = countBehind (calibratorIn state .last) channel wanted
-foundIf false state channel wanted = refusedWith noState
+abbrev pub foundWhen : Bool → List ℕ → (channel wanted : ℕ) → Found
+foundWhen true state channel wanted = countBehind (calibratorIn state .last) channel wanted
+foundWhen false state channel wanted = refusedWith noState
 
 unfoldable pub foundIn : List ℕ → (channel wanted : ℕ) → Found
-foundIn state channel wanted = foundIf (isState state) state channel wanted
+foundIn state channel wanted = foundWhen (isState state) state channel wanted
 
 -- 0 for a count, 253 where no count fits, or the number of the refusal
 abbrev pub foundNumber : Found → ℕ

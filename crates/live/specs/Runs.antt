@@ -12,11 +12,10 @@ use Rattle.bias.specs.declared.Bias.{Bias}
 use Rattle.bias.specs.Opening.{AcceptedBias}
 use Rattle.calibrator.specs.declared.Calibrator.{Calibrator}
 use Rattle.calibrator.specs.Refusals.{replyNumber}
-use Rattle.calibrator.specs.Feeding.{Feed, freshOf, calibratorAfter, outcomeAfter}
+use Rattle.calibrator.specs.Feeding.{Feed, freshOf, calibratorAfter, outcomeAfter, OfBytes, AllOfBytes}
 use Rattle.promise.specs.Promise.{Promise}
-use Rattle.promise.specs.OfBytes.{OfBytes, AllOfBytes}
 use Rattle.state.specs.State.{stateSize, calibratorIn, isState}
-use Rattle.lookup.specs.Lookup.{countBehind}
+use Rattle.promise.specs.CountBehind.{answerOf}
 use Rattle.live.specs.Calls.{Left, freshVerdict, freshBy, fedState, foundIn}
 
 -- a call is lent a record and a buffer and, with the state, the bytes behind it
@@ -54,7 +53,7 @@ pub record RunPromise (fresh : Calibrator) (s : Settings) (bias first : List ℕ
   pub each : (call : Call) → OfBytes (call .feed) → CallClaim fresh first calls call
   pub promise : Promise fresh s bias (feedsOf calls) (feedsOf others)
   -- and the count behind a temperature is that of the run's calibrator, whatever bytes come behind the state
-  pub counts : (behind : List ℕ) (channel wanted : ℕ) → foundIn (stateAfter first calls ++ behind) channel wanted ≡ countBehind (calibratorAfter fresh (feedsOf calls) .last) channel wanted
+  pub counts : (behind : List ℕ) (channel wanted : ℕ) → foundIn (stateAfter first calls ++ behind) channel wanted ≡ answerOf (calibratorAfter fresh (feedsOf calls)) channel wanted
 
 -- for every accepted table, every accepted bias file, every memory that a state has room in, every list of calls and every second list
 abbrev pub DemandThreeByStates : Type 0

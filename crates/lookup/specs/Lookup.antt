@@ -20,7 +20,7 @@ pub data Found : Type 0 where
   noCount : Found
   refusedWith : ℕ → Found
 
--- the number of each case of the code's answer
+-- what each case of the code's answer stands for, and the number of each refusal
 abbrev pub foundBy : Behind → Found
 foundBy (Count n) = foundCount n
 foundBy NoCount = noCount

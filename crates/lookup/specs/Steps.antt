@@ -2,11 +2,12 @@
 use Prim.Native.Nat.{ℕ, zero, suc, _*_}
 use Rattle.scene.specs.declared.Constants.{Constants}
 use Rattle.scene.specs.BeforeBias.{beforeBias}
-use Rattle.lookup.specs.Lookup.{Found, deliveredWith, countThat}
+use Rattle.lists.specs.Tests.{passes}
+use Rattle.lookup.specs.Lookup.{Found, foundIf}
 
 -- the count behind a wanted T in a channel with flag 0
 abbrev pub countWith : Constants → (wanted : ℕ) → Found
-countWith k wanted = countThat (λ count. deliveredWith wanted (beforeBias k count)) 65536
+countWith k wanted = foundIf passes (beforeBias k) wanted
 
 -- 2^n
 unfoldable pub power : ℕ → ℕ

@@ -24,7 +24,7 @@ use Rattle.window.specs.Means.{Tw, Tc, constantsOf, stateOf}
 use Rattle.scene.specs.declared.Constants.{Constants}
 use Rattle.scene.specs.declared.Channel.{Channel}
 use Rattle.scene.specs.Ranges.{ConstantsRange}
-use Rattle.scene.specs.Temperature.{outside}
+use Rattle.scene.specs.Temperature.{temperature}
 use Rattle.scene.specs.BeforeBias.{TOrMark, justT, flaggedMark, byTests, beforeBias}
 use Rattle.scene.proofs.Delivered.{N-is-numerator}
 use Rattle.scene.proofs.Rises.{temperature-rises-with-count}
@@ -38,18 +38,17 @@ use Rattle.lookup.proofs.SearchLaws.{not-both, none-found, found-fits, only-one
 use Rattle.lookup.proofs.FitLaws.{fits-just, just-fits, only-count-fits}
 use Rattle.lookup.proofs.AnswerLaws.{found-outside, found-not-calibrated, found-calibrated}
 use Rattle.calibrator.specs.declared.Calibrator.{Calibrator}
-use Rattle.calibrator.specs.Feeding.{Feed, Sound, freshOf, step, calibratorAfter}
+use Rattle.calibrator.specs.Feeding.{Feed, Sound, freshOf, step, calibratorAfter, AllOfBytes}
 use Rattle.calibrator.proofs.SoundLaws.{fresh-is-sound, sound-after-step}
 use Rattle.promise.specs.Roll.{Roll, verdictAt, joinedBy, joined}
 use Rattle.promise.specs.Restart.{rolledBy}
 use Rattle.promise.specs.Outcomes.{fedMoment}
 use Rattle.promise.specs.Moments.{Moment, meansAt, shelfAt, tnlAt, dAt, channelsAt}
 use Rattle.promise.specs.Promise.{Alike}
-use Rattle.promise.specs.OfBytes.{AllOfBytes}
 use Rattle.promise.specs.SameScenes.{flagAt, sceneBeforeBias, FedChannel, settingsOfFed, momentOfFed, fedFlag, fedScene}
-use Rattle.promise.specs.CountBehind.{answerOf, answerAt, CountsBehind, FedBytes, HigherCountHigherT, AnswerSays, AnswersSay}
-use Rattle.promise.proofs.HistoryLaws.{lastOf, calibrator-after, fresh-is-empty-roll}
-use Rattle.promise.proofs.RestartLaws.{after-is, numbers-by}
+use Rattle.promise.specs.CountBehind.{answerOf, answerOfRoll, CountsBehind, SameAfterRestart, FedBytes, HigherCountHigherT, AnswerSays, AnswersSay}
+use Rattle.promise.proofs.HistoryLaws.{lastOf, fresh-is-empty-roll}
+use Rattle.promise.proofs.RestartLaws.{after-is, kept-by, kept-after-restart}
 use Rattle.promise.proofs.AlikeLaws.{SameRolls, same-rolls}
 
 -- ---- a channel of a moment
@@ -64,7 +63,7 @@ module _ (s : Settings) (m : Moment) (c : ℕ) where
       let sums = meansAt s m c in
       let channel = s .channel c in
       rw (eq-eqb (flagAt s m c) 0 zero-flag)
-      (ap (byTests (Tc channel) (Tw sums channel -ℤ Tc channel) (tnlAt s m c) (dAt s m c)) (sym (N-is-numerator constantsAt (pos (sums .ww)) (pos (sums .wc)) (pos (sums .ac)) count refl refl)))
+      (ap (λ n. byTests n (dAt s m c) (temperature (Tc channel) (Tw sums channel -ℤ Tc channel) (tnlAt s m c) (dAt s m c) n)) (sym (N-is-numerator constantsAt (pos (sums .ww)) (pos (sums .wc)) (pos (sums .ac)) count refl refl)))
 
   module _ (below : c < channels) where
     kept-state : channelIn (keptOf (channelsAt s m)) c ≡ stateOf s c (shelfAt s m c) (meansAt s m c)
@@ -86,7 +85,7 @@ module _ (s : Settings) (channel wanted : ℕ) where
       let kept = channelIn last (channel - 1) in
       found-outside channel (last .any) (kept .flag) (beforeBias (kept .constants)) wanted outside ∙ sym (found-outside channel accepted flag scenes wanted outside)
 
-  nothing-answers : (inside : Bool) → fromTo 1 channels channel ≡ inside → countBehind nothingKept channel wanted ≡ answerAt s [] channel wanted
+  nothing-answers : (inside : Bool) → fromTo 1 channels channel ≡ inside → countBehind nothingKept channel wanted ≡ answerOfRoll s [] channel wanted
   unfolding nothingKept
   nothing-answers false e = same-when-outside nothingKept false 0 (λ count. flaggedMark) e
   nothing-answers true e =
@@ -104,7 +103,7 @@ module _ (s : Settings) (channel wanted : ℕ) where
     kept = channelIn (keptOf (channelsAt s m)) c
 
     by-flag : (unflagged : Bool) → eqb (flagAt s m c) 0 ≡ unflagged → fromTo 1 channels channel ≡ true → c < channels
-        → countBehind (keptOf (channelsAt s m)) channel wanted ≡ answerAt s (scan ∷ roll) channel wanted
+        → countBehind (keptOf (channelsAt s m)) channel wanted ≡ answerOfRoll s (scan ∷ roll) channel wanted
     by-flag false flagged inside below =
         found-not-calibrated channel true (kept .flag) (beforeBias (kept .constants)) wanted inside (ap (λ (n : ℕ). eqb n 0) (kept-flag s m c below) ∙ flagged)
         ∙ sym (found-not-calibrated channel true (flagAt s m c) (λ count. sceneBeforeBias s m c (pos count)) wanted inside flagged)
@@ -115,11 +114,11 @@ module _ (s : Settings) (channel wanted : ℕ) where
         ∙ ap (λ (scenes : ℕ → TOrMark). countThat (λ count. deliveredWith wanted (scenes count)) 65536) (fun-ext (scene-of-constants s m c zero-flag))
         ∙ sym (found-calibrated channel true (flagAt s m c) (λ count. sceneBeforeBias s m c (pos count)) wanted inside unflagged)
 
-    last-answers : (inside : Bool) → fromTo 1 channels channel ≡ inside → countBehind (keptOf (channelsAt s m)) channel wanted ≡ answerAt s (scan ∷ roll) channel wanted
+    last-answers : (inside : Bool) → fromTo 1 channels channel ≡ inside → countBehind (keptOf (channelsAt s m)) channel wanted ≡ answerOfRoll s (scan ∷ roll) channel wanted
     last-answers false e = same-when-outside (keptOf (channelsAt s m)) true (flagAt s m c) (λ count. sceneBeforeBias s m c (pos count)) e
     last-answers true e = by-flag (eqb (flagAt s m c) 0) refl e (let number : (1 ≤ channel) × (channel ≤ channels) = in-between {low = 1} {high = channels} {x = channel} e in omega arith)
 
-  roll-answers : (roll : Roll) → countBehind (lastOf s roll) channel wanted ≡ answerAt s roll channel wanted
+  roll-answers : (roll : Roll) → countBehind (lastOf s roll) channel wanted ≡ answerOfRoll s roll channel wanted
   roll-answers [] = nothing-answers (fromTo 1 channels channel) refl
   roll-answers (scan ∷ roll) = last-answers scan roll (fromTo 1 channels channel) refl
 
@@ -150,6 +149,9 @@ counts-behind table accepted bias file feeds others =
           ap (λ (last : LastScan). countBehind last channel wanted) (kept-after table bias feeds ∙ same .kept ∙ sym (kept-after table bias others));
     }
 
+pub same-after-restart : SameAfterRestart
+same-after-restart table bias before feed buffer room e channel wanted = ap (λ (last : LastScan). countBehind last channel wanted) (kept-after-restart table bias before feed buffer room e)
+
 -- ---- the constants that are kept are in their ranges
 sound-after : (feeds : List Feed) → AllOfBytes feeds → {c : Calibrator} → Sound c → Sound (calibratorAfter c feeds)
 unfolding AllOfBytes calibratorAfter
@@ -170,12 +172,7 @@ module _ (f : FedChannel) where
   handedBack bias = step (calibratorAfter (freshOf ofTable bias) (f .before)) (f .feed) .calibrator
 
   kept-of-fed : (bias : Bias) → handedBack bias .last ≡ keptOf (channelsAt s (momentOfFed f))
-  kept-of-fed bias =
-      let roll = rolledBy [] (f .before) in
-      ap (λ (c : Calibrator). step (calibratorAfter c (f .before)) (f .feed) .calibrator .last) (fresh-is-empty-roll ofTable bias)
-      ∙ ap (λ (c : Calibrator). step c (f .feed) .calibrator .last) (after-is ofTable bias (f .before) [] tt)
-      ∙ ap (λ (c : Calibrator). c .last) (calibrator-after ofTable bias roll (f .feed) (numbers-by ofTable bias (f .before) [] tt))
-      ∙ ap (λ (v : Verdict). lastOf s (joinedBy v roll (f .feed))) (f .feedAccepted)
+  kept-of-fed bias = kept-by ofTable bias (f .before) (f .feed) ∙ ap (λ (v : Verdict). lastOf s (joinedBy v (rolledBy [] (f .before)) (f .feed))) (f .feedAccepted)
 
   module _ (bytes : FedBytes f) (zero-flag : fedFlag f ≡ 0) where
     constants-fed : ConstantsRange fedConstants
@@ -197,8 +194,8 @@ module _ (f : FedChannel) where
   just-of-constants : (count : ℕ) (t : ℤ) → fedScene f (pos count) ≡ justT t → beforeBias fedConstants count ≡ justT t
   just-of-constants count t e = scene-of-constants s (momentOfFed f) (f .channel) (just-has-flag-zero count t e) count ∙ e
 
-pub higher-count-higher-t : HigherCountHigherT
-higher-count-higher-t f bytes count higher t u more low high =
+t-rises : (f : FedChannel) → FedBytes f → (count higher : ℕ) (t u : ℤ) → count < higher → fedScene f (pos count) ≡ justT t → fedScene f (pos higher) ≡ justT u → t <ℤ u
+t-rises f bytes count higher t u more low high =
     let k = fedConstants f in
     let range = constants-fed f bytes (just-has-flag-zero f count t low) in
     let one = just-of-constants f count t low in
@@ -207,6 +204,9 @@ higher-count-higher-t f bytes count higher t u more low high =
     let second = just-not-outside k higher u other in
     subst₂ _<ℤ_ (just-temperature k count t one) (just-temperature k higher u other)
     (temperature-rises-with-count range more (first .low) (first .high) (second .low) (second .high))
+
+pub higher-count-higher-t : HigherCountHigherT
+higher-count-higher-t f bytes count higher t u more low high = t-rises f bytes count higher t u more low high
 
 -- ---- what an answer says
 module _ (f : FedChannel) (bytes : FedBytes f) (zero-flag : fedFlag f ≡ 0) (wanted : ℕ) where
@@ -244,4 +244,4 @@ module _ (f : FedChannel) (bytes : FedBytes f) (zero-flag : fedFlag f ≡ 0) (wa
   }
 
 pub answers-say : AnswersSay
-answers-say f bytes zero-flag bias file wanted = says f bytes zero-flag wanted _ (answer-is f bytes zero-flag wanted bias)
+answers-say f bytes zero-flag bias wanted = says f bytes zero-flag wanted _ (answer-is f bytes zero-flag wanted bias)

@@ -25,6 +25,7 @@ use Rattle.window.proofs.AgeLaws.{ScanShape, means-of-scans}
 use Rattle.bias.specs.declared.Bias.{Bias}
 use Rattle.product.specs.Scenes.{Deliver, byBias}
 use Rattle.product.specs.Product.{productLayout, productOf, deliveredCount}
+use Rattle.lastscan.specs.LastScan.{keptOf}
 use Rattle.calibrator.specs.declared.Calibrator.{Calibrator}
 use Rattle.calibrator.specs.Refusals.{delivered}
 use Rattle.calibrator.specs.Feeding.{Feed, keptBy, freshOf, step, calibratorAfter, outcomeAfter}
@@ -35,7 +36,7 @@ use Rattle.calibrator.proofs.Verdicts.{verdict-passes, passes-facts}
 use Rattle.promise.proofs.RollLaws.{scanOfAge, NumbersTo}
 use Rattle.promise.proofs.SampleLaws.{means-at-is}
 use Rattle.promise.specs.Outcomes.{fedMoment, outcomeBy, outcomeAt}
-use Rattle.promise.proofs.HistoryLaws.{calibratorOf, by-age-shape, window-same, numbers-joined, calibrator-after, outcome-after, fresh-is-empty-roll}
+use Rattle.promise.proofs.HistoryLaws.{lastOf, calibratorOf, by-age-shape, window-same, numbers-joined, calibrator-after, outcome-after, fresh-is-empty-roll}
 
 -- ---- a roll that feeds have made: each record is well formed, and its number is above all before it
 abbrev NumbersBelow : Roll → ℕ → Type 0
@@ -143,6 +144,23 @@ module _ (s : Settings) where
       ∙ means-same few _ _ (λ k. by-age-shape s (scan ∷ roll) (scanNumber scan) k) (λ k. by-age-shape s (scan ∷ older) (scanNumber scan) k) (λ k below. joined-recent scan roll k below) c inside
       ∙ sym (means-at-is s (fedMoment older scan) c inside)))
 
+-- ---- a feed that the roll accepts is accepted by the records of its window
+recent-passes : (feed : Feed) (roll : Roll) → Made roll → verdictAt roll feed ≡ passes → verdictAt (recent (scanNumber (feed .scan)) roll) feed ≡ passes
+recent-passes feed roll made e =
+    let number = scanNumber (feed .scan) in
+    let passed = passes-facts (begun roll) (lastNumber roll) (feed .scan) (length (feed .buffer)) e in
+    let older = below-when-last roll number made (passed .above) in
+    verdict-passes (begun (recent number roll)) (lastNumber (recent number roll)) (feed .scan) (length (feed .buffer)) (passed .long) (passed .right) (last-when-below (recent number roll) number (recent-below number roll number older)) (passed .room)
+
+-- and it leaves the same channels
+recent-kept : (s : Settings) → s .ages ≤ ages → (feed : Feed) (roll : Roll) → Made roll → verdictAt roll feed ≡ passes
+    → lastOf s (joined roll feed) ≡ lastOf s (joined (recent (scanNumber (feed .scan)) roll) feed)
+recent-kept s few feed roll made e =
+    let older = recent (scanNumber (feed .scan)) roll in
+    ap (λ (v : Verdict). lastOf s (joinedBy v roll feed)) e
+    ∙ ap keptOf (channels-recent s few (feed .scan) roll)
+    ∙ sym (ap (λ (v : Verdict). lastOf s (joinedBy v older feed)) (recent-passes feed roll made e))
+
 -- ---- the law
 module _ (table : Table) (bias : Bias) where
   abbrev ofTable : Settings
@@ -158,7 +176,7 @@ module _ (table : Table) (bias : Bias) where
       ap (λ (c : Calibrator). calibratorAfter c more) (calibrator-after table bias roll feed numbers)
       ∙ after-is more (joined roll feed) (numbers-joined (verdictAt roll feed) roll feed refl numbers)
 
-  pub numbers-by : (feeds : List Feed) (roll : Roll) → NumbersTo roll (lastNumber roll) → NumbersTo (rolledBy roll feeds) (lastNumber (rolledBy roll feeds))
+  numbers-by : (feeds : List Feed) (roll : Roll) → NumbersTo roll (lastNumber roll) → NumbersTo (rolledBy roll feeds) (lastNumber (rolledBy roll feeds))
   unfolding rolledBy
   numbers-by [] roll numbers = numbers
   numbers-by (feed ∷ more) roll numbers = numbers-by more (joined roll feed) (numbers-joined (verdictAt roll feed) roll feed refl numbers)
@@ -172,12 +190,29 @@ module _ (table : Table) (bias : Bias) where
   both-accepted : (feed : Feed) (roll : Roll) → Made roll → verdictAt roll feed ≡ passes → outcomeAt ofTable ofBias roll feed ≡ outcomeAt ofTable ofBias (recent (scanNumber (feed .scan)) roll) feed
   both-accepted feed roll made e =
       let number = scanNumber (feed .scan) in
-      let passed = passes-facts (begun roll) (lastNumber roll) (feed .scan) (length (feed .buffer)) e in
-      let older = below-when-last roll number made (passed .above) in
-      let again : verdictAt (recent number roll) feed ≡ passes = verdict-passes (begun (recent number roll)) (lastNumber (recent number roll)) (feed .scan) (length (feed .buffer)) (passed .long) (passed .right) (last-when-below (recent number roll) number (recent-below number roll number older)) (passed .room) in
+      let again = recent-passes feed roll made e in
       ap (λ (v : Verdict). outcomeBy ofTable ofBias v roll feed) e
       ∙ ap (λ (all : List Channel). record { reply = delivered (deliveredCount ofBias all (earthCounts (feed .scan))); buffer = productOf ofBias number all (earthCounts (feed .scan)) ++ drop (layoutSize productLayout) (feed .buffer) }) (channels-recent ofTable (omega arith) (feed .scan) roll)
       ∙ sym (ap (λ (v : Verdict). outcomeBy ofTable ofBias v (recent number roll) feed) again)
+
+  -- what is kept after a feed
+  pub kept-by : (feeds : List Feed) (feed : Feed) → step (calibratorAfter (freshOf table bias) feeds) feed .calibrator .last ≡ lastOf (settingsOf ages (table .bytes)) (joined (rolledBy [] feeds) feed)
+  kept-by feeds feed =
+      ap (λ (c : Calibrator). step (calibratorAfter c feeds) feed .calibrator .last) (fresh-is-empty-roll table bias)
+      ∙ ap (λ (c : Calibrator). step c feed .calibrator .last) (after-is feeds [] tt)
+      ∙ ap (λ (c : Calibrator). c .last) (calibrator-after table bias (rolledBy [] feeds) feed (numbers-by feeds [] tt))
+
+  pub kept-after-restart : (before : List Feed) (feed : Feed) (buffer : List ℕ) → layoutSize productLayout ≤ length buffer → verdictAt (rolledBy [] before) feed ≡ passes
+      → step (calibratorAfter (freshOf table bias) before) feed .calibrator .last
+      ≡ step (calibratorAfter (freshOf table bias) (feedsOf buffer (recent (scanNumber (feed .scan)) (rolledBy [] before)))) feed .calibrator .last
+  kept-after-restart before feed buffer room e =
+      let roll = rolledBy [] before in
+      let number = scanNumber (feed .scan) in
+      let made = made-by before [] tt in
+      kept-by before feed
+      ∙ recent-kept ofTable (omega arith) feed roll made e
+      ∙ ap (λ (r : Roll). lastOf ofTable (joined r feed)) (sym (again-rolls buffer room (recent number roll) (recent-made number roll made)))
+      ∙ sym (kept-by (feedsOf buffer (recent number roll)) feed)
 
   pub restart : Restart (freshOf table bias)
   restart = record {

@@ -36,14 +36,15 @@ use Rattle.promise.proofs.RestartLaws.{left-by}
 abbrev pub byNumbers : List ℤ → ℤ → TOrMark
 byNumbers numbers count =
     let at : ℕ → ℤ = λ k. getD numbers k (pos 0) in
-    byTests (at 0) (at 1) (at 2) (at 3) (at 4 *ℤ count -ℤ at 5)
+    let n = at 4 *ℤ count -ℤ at 5 in
+    byTests n (at 3) (temperature (at 0) (at 1) (at 2) (at 3) n)
 
 pub scene-by-numbers : (s : Settings) (m : Moment) (c : ℕ) → flagAt s m c ≡ 0 → (count : ℤ) → sceneBeforeBias s m c count ≡ byNumbers (sixNumbers s m c) count
 scene-by-numbers s m c zero-flag count =
     let channel = s .channel c in
     let sums = meansAt s m c in
     rw (eq-eqb (flagAt s m c) 0 zero-flag)
-    (ap (byTests (Tc channel) (Tw sums channel -ℤ Tc channel) (tnlAt s m c) (dAt s m c)) (N-by-products (pos (sums .ww)) (pos (sums .wc)) (pos (sums .ac)) count))
+    (ap (λ n. byTests n (dAt s m c) (temperature (Tc channel) (Tw sums channel -ℤ Tc channel) (tnlAt s m c) (dAt s m c) n)) (N-by-products (pos (sums .ww)) (pos (sums .wc)) (pos (sums .ac)) count))
 
 pub same-scenes : SameScenes
 same-scenes one other zero-flag other-zero agree n small =

@@ -6,6 +6,10 @@ use mathlib.Core.List.{List, [], _∷_}
 use mathlib.Core.Bool.{true, false}
 use lib.IntN.{ℤ, pos}
 use lib.Signed.{_<ℤ_}
+use lib.ListN.{length}
+use Rattle.lists.specs.Tests.{passes}
+use Rattle.record.specs.Record.{scanNumber}
+use Rattle.product.specs.Product.{productSize}
 use Rattle.table.specs.declared.Table.{Table}
 use Rattle.table.specs.Settings.{Settings, settingsOf}
 use Rattle.table.specs.Opening.{ages, AcceptedTable}
@@ -14,12 +18,11 @@ use Rattle.bias.specs.Opening.{AcceptedBias}
 use Rattle.scene.specs.BeforeBias.{justT, flaggedMark}
 use Rattle.lookup.specs.Lookup.{Found, foundCount, noCount, lookupVerdict, foundIf, countBehind}
 use Rattle.calibrator.specs.declared.Calibrator.{Calibrator}
-use Rattle.calibrator.specs.Feeding.{Feed, freshOf, step, calibratorAfter}
-use Rattle.promise.specs.Roll.{Roll}
-use Rattle.promise.specs.Restart.{rolledBy}
+use Rattle.calibrator.specs.Feeding.{Feed, freshOf, step, calibratorAfter, OfBytes, AllOfBytes}
+use Rattle.promise.specs.Roll.{Roll, verdictAt}
+use Rattle.promise.specs.Restart.{rolledBy, recent, feedsOf}
 use Rattle.promise.specs.Outcomes.{fedMoment}
 use Rattle.promise.specs.Promise.{Alike}
-use Rattle.promise.specs.OfBytes.{OfBytes, AllOfBytes}
 use Rattle.promise.specs.SameScenes.{flagAt, sceneBeforeBias, FedChannel, fedFlag, fedScene}
 
 -- what a calibrator answers
@@ -27,16 +30,16 @@ abbrev pub answerOf : Calibrator → (channel wanted : ℕ) → Found
 answerOf c channel wanted = countBehind (c .last) channel wanted
 
 -- what the roll says: its last record with the records that stand; 12 while it is empty
-abbrev pub answerAt : Settings → Roll → (channel wanted : ℕ) → Found
-answerAt s [] channel wanted = foundIf (lookupVerdict channel false 0) (λ count. flaggedMark) wanted
-answerAt s (scan ∷ roll) channel wanted =
+abbrev pub answerOfRoll : Settings → Roll → (channel wanted : ℕ) → Found
+answerOfRoll s [] channel wanted = foundIf (lookupVerdict channel false 0) (λ count. flaggedMark) wanted
+answerOfRoll s (scan ∷ roll) channel wanted =
     let m = fedMoment roll scan in let c = channel - 1 in
     foundIf (lookupVerdict channel true (flagAt s m c)) (λ count. sceneBeforeBias s m c (pos count)) wanted
 
 -- ---- for every accepted table, every accepted bias file, every list of feeds from a fresh calibrator, and every second list
 pub record CountsClaim (fresh : Calibrator) (s : Settings) (feeds others : List Feed) : Type 0 where
   -- the calibrator answers what the roll says
-  pub answers : (channel wanted : ℕ) → answerOf (calibratorAfter fresh feeds) channel wanted ≡ answerAt s (rolledBy [] feeds) channel wanted
+  pub answers : (channel wanted : ℕ) → answerOf (calibratorAfter fresh feeds) channel wanted ≡ answerOfRoll s (rolledBy [] feeds) channel wanted
   -- two alike lists give the same answers
   pub alike : Alike s [] [] feeds others
       → (channel wanted : ℕ) → answerOf (calibratorAfter fresh feeds) channel wanted ≡ answerOf (calibratorAfter fresh others) channel wanted
@@ -45,6 +48,13 @@ abbrev pub CountsBehind : Type 0
 CountsBehind =
     (table : Table) → AcceptedTable (table .bytes) → (bias : Bias) → AcceptedBias (bias .bytes) → (feeds others : List Feed)
     → CountsClaim (freshOf table bias) (settingsOf ages (table .bytes)) feeds others
+
+-- ---- a calibrator that is fed the accepted records of the last scan's window, and then this scan, answers the same
+abbrev pub SameAfterRestart : Type 0
+SameAfterRestart =
+    (table : Table) (bias : Bias) (before : List Feed) (feed : Feed) (buffer : List ℕ) → productSize ≤ length buffer → verdictAt (rolledBy [] before) feed ≡ passes
+    → let after : List Feed → Calibrator = λ feeds. step (calibratorAfter (freshOf table bias) feeds) feed .calibrator in
+    (channel wanted : ℕ) → answerOf (after before) channel wanted ≡ answerOf (after (feedsOf buffer (recent (scanNumber (feed .scan)) (rolledBy [] before)))) channel wanted
 
 -- ---- a channel of feeds whose records are of bytes
 abbrev pub FedBytes : FedChannel → Type 0
@@ -64,5 +74,5 @@ pub record AnswerSays (f : FedChannel) (answer : Found) (wanted : ℕ) : Type 0 
 
 abbrev pub AnswersSay : Type 0
 AnswersSay =
-    (f : FedChannel) → FedBytes f → fedFlag f ≡ 0 → (bias : Bias) → AcceptedBias (bias .bytes) → (wanted : ℕ)
+    (f : FedChannel) → FedBytes f → fedFlag f ≡ 0 → (bias : Bias) (wanted : ℕ)
     → AnswerSays f (answerOf (step (calibratorAfter (freshOf (record { bytes = f .table }) bias) (f .before)) (f .feed) .calibrator) (f .channel + 1) wanted) wanted

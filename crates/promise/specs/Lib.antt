@@ -7,5 +7,4 @@ pub mod Outcomes
 pub mod WithoutBias
 pub mod SameScenes
 pub mod BeforeBias
-pub mod OfBytes
 pub mod CountBehind

@@ -17,8 +17,7 @@ use Rattle.bias.specs.Opening.{AcceptedBias}
 use Rattle.window.specs.Means.{Tw, Tc, flagOf}
 use Rattle.scene.specs.declared.Scene.the-variants.{Flagged, Outside, Guard}
 use Rattle.scene.specs.Scene.{bits}
-use Rattle.scene.specs.Temperature.{outside, guardFails}
-use Rattle.scene.specs.BeforeBias.{TOrMark, justT, flaggedMark, outsideMark, guardMark}
+use Rattle.scene.specs.BeforeBias.{TOrMark, justT, flaggedMark, outsideMark, guardMark, byTests}
 use Rattle.product.specs.Scenes.{byBias}
 use Rattle.calibrator.specs.Feeding.{Feed, freshOf, outcomeAfter}
 use Rattle.promise.specs.Roll.{verdictAt}
@@ -34,9 +33,7 @@ module _ (s : Settings) (m : Moment) (c : ℕ) where
 
   -- what it makes of a count before scan bias (document 01, "Scenes")
   abbrev pub sceneBeforeBias : ℤ → TOrMark
-  sceneBeforeBias count =
-      let t = tOf s m c count in
-      cond (eqb flagAt 0) (cond (outside (nOf s m c count) (dAt s m c)) outsideMark (cond (guardFails t) guardMark (justT t))) flaggedMark
+  sceneBeforeBias count = cond (eqb flagAt 0) (byTests (nOf s m c count) (dAt s m c) (tOf s m c count)) flaggedMark
 
   -- Tc, Tw - Tc, TNL, D, 12 × Wc × Ww and Ac × Ww
   abbrev pub sixNumbers : List ℤ

@@ -32,15 +32,12 @@ module _ {k : Constants} {count : ℕ} (h : ConstantsRange k) (c : count ≤ 655
   pub n-fits : SFits w64 (numerator k count)
   n-fits = bounded-fits (numerator-bounded h c) (lit< tt)
 
-  pub top-fits : SFits w64 (floor (pos 5 *ℤ k .d) (pos 4))
+  top-fits : SFits w64 (floor (pos 5 *ℤ k .d) (pos 4))
   top-fits = floor-fits (pos 4) (bounded-fits (five-d-bounded h) (lit< tt))
 
   -- as it stands after the subtraction
   abbrev pub formedN : ℤ
   formedN = toZ w64 (ofZ w64 (toZ w64 (ofZ w64 (toZ w64 (ofZ w64 (k .slope)) *ℤ toZ w64 count)) -ℤ toZ w64 (ofZ w64 (k .base))))
-
-  pub formed-is : formedN ≡ numerator k count
-  formed-is = rw n-is (reads-back n-fits)
 
   pub above-test : (scale : Scale) → scale ≡ scaleOf k → (b : Bool) → ltZ (toZ w64 (ofZ w64 (scale .top))) formedN ≡ b
       → ltZ (pos 5 *ℤ k .d) (pos 4 *ℤ numerator k count) ≡ b

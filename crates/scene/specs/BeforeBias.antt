@@ -13,10 +13,10 @@ pub data TOrMark : Type 0 where
   outsideMark : TOrMark
   guardMark : TOrMark
 
--- by its tests, of the numbers that T is made of
-abbrev pub byTests : (tc rise tnl d n : ℤ) → TOrMark
-byTests tc rise tnl d n = let t = temperature tc rise tnl d n in cond (outside n d) outsideMark (cond (guardFails t) guardMark (justT t))
+-- by its tests, in a channel with flag 0
+abbrev pub byTests : (N D T : ℤ) → TOrMark
+byTests n d t = cond (outside n d) outsideMark (cond (guardFails t) guardMark (justT t))
 
--- of a count in a channel with flag 0
+-- of a count
 abbrev pub beforeBias : Constants → ℕ → TOrMark
-beforeBias k count = byTests (k .tc) (k .rise) (k .tnl) (k .d) (numerator k count)
+beforeBias k count = let n = numerator k count in byTests n (k .d) (temperature (k .tc) (k .rise) (k .tnl) (k .d) n)

@@ -7,7 +7,7 @@ ghost use lib.Signed.{_≤ℤ_};
 ghost use lib.Ieee.{isNan};
 ghost use Rattle.integers.specs.Bounds.{Bounded};
 ghost use Rattle.scene.specs.Temperature.{temperature, biased};
-ghost use Rattle.scene.specs.Scene.{kelvin, value, bits, sceneOf};
+ghost use Rattle.scene.specs.Scene.{kelvin, value, bits, sceneOf, noConstants};
 ghost use Rattle.scene.specs.Ranges.{ConstantsRange};
 ghost use Rattle.scene.specs.Steps.{scaleOf, Bracket, unsureOf, c0Of, eOf, BiasNumbers, bendOf, placed};
 use integers::floor_div;
@@ -36,6 +36,20 @@ pub struct Constants {
 pub struct Channel {
     pub flag: u8,
     pub constants: Constants,
+}
+
+// A flagged channel has no constants.
+pub fn no_constants() -> Constants
+    ensures { λ k. ⌜ k ≡ noConstants ⌝ }
+{
+    Constants {
+        tc: 0,
+        rise: 0,
+        tnl: 0,
+        d: 0,
+        slope: 0,
+        base: 0,
+    }
 }
 
 // What the scenes of a channel share, formed of its constants before the position loop, so that most need no division: 2^63 / D, cut off;
