@@ -95,9 +95,7 @@ fn put_channel(out: &mut [u32], at: usize, channel: Channel)
     ensures { λ _. ⌜ now (out .exit) ≡ put (now (out .entry)) at (numbersOfChannel channel) ⌝ }
 {
     let numbers = numbers_of_channel(channel);
-    for k in 0..CHANNEL_NUMBERS {
-        out[at + k] = numbers[k];
-    }
+    lists::copy(&numbers, out, at);
 }
 
 // Whether a scan is kept.
