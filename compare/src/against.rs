@@ -9,6 +9,7 @@ use std::fmt::Debug;
 use crate::check::biases::checked_bias_answer;
 use crate::check::calls::checked_call;
 use crate::check::counters::Counters;
+use crate::check::halves::checked_halves;
 use crate::check::listings::{checked_listing, checked_stream};
 use crate::check::lists::checked_outcomes;
 use crate::check::lookups::{
@@ -264,6 +265,18 @@ pub fn one_shelf(
         same_outcomes(&format!("list {}", index + 1), &other(list), this)?;
     }
     Ok(())
+}
+
+/// The answers and buffers of a list in whose last feed r meets halves, and this feed to the state before it.
+pub fn halves(
+    seed: u64,
+    other: impl Fn(&FeedList) -> Vec<Outcome>,
+    feed: impl Fn(&mut [u8], &[u8], &mut [u8]) -> u8,
+    counters: &mut Counters,
+) -> Result<(), String> {
+    let case = checked_halves(seed, counters)?;
+    same_outcomes("the list", &other(&case.list), &case.outcomes)?;
+    same_state_feed("its last feed", &case.last, feed, counters)
 }
 
 /// The printed text of the listing program.
@@ -534,6 +547,13 @@ pub fn all_lookup_bytes(
 #[cfg(test)]
 mod tests {
     use super::*;
+    use crate::check::halves::HalvesCase;
+    use crate::check::roundings::{
+        nearest, ChannelParts, Half, Place, RoundingMistake, RoundingMistake::In, ScenePart,
+        ROUNDING_MISTAKES, WRONG_HALVES,
+    };
+    use crate::check::rules;
+    use crate::check::shelves::ShelfAndPairs;
     use crate::generator::kept_channels::ChannelValues;
     use crate::generator::ratios::{ratio, Mistake, MISTAKES};
     use crate::generator::states::StateValues;
@@ -577,22 +597,15 @@ mod tests {
     }
 
     #[test]
-    fn roundings_differ_from_halves_down_and_halves_away_from_zero() {
-        let wide = |a: i64, b: i64, less: i128| {
-            ((2 * a as i128 + b as i128 - less).div_euclid(2 * b as i128)) as i64
+    fn roundings_differ_where_halves_go_another_way() {
+        let finds_half = |half: Half| {
+            let other = |a: i64, b: i64| nearest(a as i128, b as i128, half) as i64;
+            finds(|seed, counters| roundings(seed, other, counters), 20)
         };
-        let right = |a: i64, b: i64| wide(a, b, 0);
-        assert!(!finds(
-            |seed, counters| roundings(seed, right, counters),
-            20
-        ));
-        let down = |a: i64, b: i64| wide(a, b, 1);
-        assert!(finds(|seed, counters| roundings(seed, down, counters), 20));
-        let away = |a: i64, b: i64| {
-            let size = (2 * a.unsigned_abs() as i128 + b as i128) / (2 * b as i128);
-            (size * a.signum() as i128) as i64
-        };
-        assert!(finds(|seed, counters| roundings(seed, away, counters), 20));
+        assert!(!finds_half(Half::Even));
+        for half in WRONG_HALVES {
+            assert!(finds_half(half), "{half:?}");
+        }
     }
 
     #[test]
@@ -889,7 +902,7 @@ mod tests {
         ));
         let wrongs: [fn(i128, i128, i128) -> i128; 5] = [
             // Halves down, cut towards 0, c0 before e, no e, no c0.
-            |t, c0, e| c0 - r(-(65_536 + e) * t, 65_536),
+            |t, c0, e| c0 + nearest((65_536 + e) * t, 65_536, Half::Down),
             |t, c0, e| c0 + t + e * t / 65_536,
             |t, c0, e| r((65_536 + e) * (t + c0), 65_536),
             |t, c0, _| c0 + t,
@@ -1091,7 +1104,7 @@ mod tests {
         }
         let no_version = |memory: &mut [u8], record: &[u8], buffer: &mut [u8]| {
             let mut repaired = memory.to_vec();
-            repaired[7..11].copy_from_slice(&[0, 0, 0, 5]);
+            repaired[7..11].copy_from_slice(&[0, 0, 0, 6]);
             state::feed(&mut repaired, record, buffer)
         };
         assert!(finds(
@@ -1209,9 +1222,21 @@ mod tests {
         first: usize,
         scene: impl Fn(&ChannelOfFeed, u16) -> i128,
     ) -> Vec<Outcome> {
+        let bias = open_bias(&list.bias).unwrap();
+        with_scenes_of(list, first, |own, count, position| {
+            bias.pair(own.channel, position).biased(scene(own, count))
+        })
+    }
+
+    /// What a list leaves where B of each delivered scene is made anew of its count and position, in the feeds from
+    /// this index on.
+    fn with_scenes_of(
+        list: &FeedList,
+        first: usize,
+        scene: impl Fn(&ChannelOfFeed, u16, usize) -> i128,
+    ) -> Vec<Outcome> {
         let mut all = outcomes(list);
         let table = open(&list.table).unwrap();
-        let bias = open_bias(&list.bias).unwrap();
         let mut roll: Vec<ScanRecord> = Vec::new();
         for (index, (feed, outcome)) in list.feeds.iter().zip(&mut all).enumerate() {
             let Ok(record) = judge(&roll, &feed.record, feed.buffer.len()) else {
@@ -1233,14 +1258,149 @@ mod tests {
                 for (position, count) in record.earth_counts(channel).into_iter().enumerate() {
                     if scene_of(product, channel, position) > 0.0 {
                         let at = 35 + 4 * (96 * channel + position);
-                        let b = bias.pair(channel, position).biased(scene(&own, count));
-                        let kelvin = b as f32 / 4096.0;
+                        let kelvin = scene(&own, count, position) as f32 / 4096.0;
                         product[at..at + 4].copy_from_slice(&kelvin.to_be_bytes());
                     }
                 }
             }
         }
         all
+    }
+
+    /// The parts of a channel of which a mistake makes other scenes.
+    fn parts_of(own: &ChannelOfFeed) -> ChannelParts {
+        let record = &own.roll[own.roll.len() - 1];
+        let shelf = ShelfAndPairs::of(&own.table.bytes, record.bytes(), own.channel);
+        ChannelParts {
+            q: own.sums.thermometers.temperature,
+            p: own.sums.thermometers.weight,
+            b: own.table.channels[own.channel].warm_bias,
+            tc: cold_temperature(own.table, own.channel),
+            line: shelf.line(),
+            d: own.sums.difference(),
+        }
+    }
+
+    /// What a list leaves where each delivered scene of its last feed is made anew, with a mistake in a rounding or
+    /// without one.
+    fn with_mistake(list: &FeedList, mistake: Option<RoundingMistake>) -> Vec<Outcome> {
+        let last = list.feeds.len() - 1;
+        with_scenes_of(list, last, |own, count, position| {
+            let scene = ScenePart {
+                n: own.place(count).0,
+                pair: rules::pair(&list.bias, own.channel, position),
+                t: 0,
+                b: 0,
+            };
+            parts_of(own).biased(&scene, mistake)
+        })
+    }
+
+    /// Lists in whose last feeds r meets halves, with what they leave.
+    fn halves_cases(count: u64) -> Vec<HalvesCase> {
+        let mut counters = Counters::new();
+        let all = (0..count).map(|seed| checked_halves(seed, &mut counters));
+        all.map(|case| case.unwrap()).collect()
+    }
+
+    #[test]
+    fn halves_differ_by_each_mistake() {
+        let cases = halves_cases(8);
+        let differs = |mistake: Option<RoundingMistake>| {
+            cases.iter().any(|case| {
+                let other = with_mistake(&case.list, mistake);
+                same_outcomes("", &other, &case.outcomes).is_err()
+            })
+        };
+        assert!(!differs(None));
+        for (class, mistake) in ROUNDING_MISTAKES {
+            assert!(differs(Some(mistake)), "{class}");
+        }
+    }
+
+    #[test]
+    fn halves_differ_by_a_byte_of_the_list_or_of_the_state() {
+        let finds_it = |other: fn(&FeedList) -> Vec<Outcome>, feed: FeedOfState| {
+            finds(|seed, counters| halves(seed, other, feed, counters), 1)
+        };
+        assert!(!finds_it(outcomes, state::feed));
+        let halves_up =
+            |list: &FeedList| with_mistake(list, Some(RoundingMistake::Everywhere(Half::Up)));
+        assert!(finds_it(halves_up, state::feed));
+        // The last number of Tw - Tc of the last channel, which is kept.
+        assert!(finds_it(outcomes, |memory, record, buffer| {
+            let answer = state::feed(memory, record, buffer);
+            memory[12_540 + 11] ^= 1;
+            answer
+        }));
+    }
+
+    type FeedOfState = fn(&mut [u8], &[u8], &mut [u8]) -> u8;
+
+    #[test]
+    fn states_behind_halves_differ_by_the_mistakes_that_they_keep() {
+        let cases = halves_cases(8);
+        let differs = |mistake: RoundingMistake| {
+            cases.iter().any(|case| {
+                let feed = |memory: &mut [u8], record: &[u8], buffer: &mut [u8]| {
+                    let answer = state::feed(memory, record, buffer);
+                    keep_with_mistake(&case.list, memory, mistake);
+                    answer
+                };
+                same_state_feed("", &case.last, feed, &mut Counters::new()).is_err()
+            })
+        };
+        for half in [Half::Odd, Half::Up, Half::Down] {
+            assert!(
+                differs(RoundingMistake::In(Place::WarmMean, half)),
+                "{half:?}"
+            );
+        }
+        for half in WRONG_HALVES {
+            assert!(differs(RoundingMistake::In(Place::Tnl, half)), "{half:?}");
+        }
+        for mistake in [
+            RoundingMistake::BInWarmMean,
+            RoundingMistake::IncrementFromBefore,
+            RoundingMistake::IncrementFromBehind,
+        ] {
+            assert!(differs(mistake), "{mistake:?}");
+        }
+        // What is rounded for a scene alone is not kept.
+        for place in [Place::X, Place::LinearPart, Place::Bend, Place::ScanBias] {
+            assert!(!differs(RoundingMistake::In(place, Half::Odd)), "{place:?}");
+        }
+    }
+
+    /// Puts Tw - Tc and TNL of the last feed of a list into a state, with a mistake in a rounding.
+    fn keep_with_mistake(list: &FeedList, memory: &mut [u8], mistake: RoundingMistake) {
+        let mut values = StateValues::decode(memory);
+        let table = open(&list.table).unwrap();
+        let roll = roll_of(list);
+        let window = window(&table, &roll);
+        for (channel, kept) in values.channels.iter_mut().enumerate() {
+            let own = ChannelOfFeed {
+                table: &table,
+                roll: &roll,
+                channel,
+                sums: channel_sums(&table, &window, channel),
+            };
+            let parts = parts_of(&own);
+            kept.rise = (parts.tw(Some(mistake)) - parts.tc) as u32;
+            kept.tnl = parts.tnl(Some(mistake)) as i32;
+        }
+        memory[..12_576].copy_from_slice(&values.encode());
+    }
+
+    /// The roll after a list.
+    fn roll_of(list: &FeedList) -> Vec<ScanRecord> {
+        let mut roll: Vec<ScanRecord> = Vec::new();
+        for feed in &list.feeds {
+            if let Ok(record) = judge(&roll, &feed.record, feed.buffer.len()) {
+                roll.push(record);
+            }
+        }
+        roll
     }
 
     /// Whether feeds of the first lists differ where TNL is taken in another way.
@@ -1267,11 +1427,11 @@ mod tests {
             },
             |own| {
                 let line = own.unrounded_tnl();
-                -r(-line.numerator, line.denominator)
+                nearest(line.numerator, line.denominator, Half::Down)
             },
             |own| {
                 let line = own.unrounded_tnl();
-                line.numerator.signum() * r(line.numerator.abs(), line.denominator)
+                nearest(line.numerator, line.denominator, Half::AwayFromZero)
             },
             |own| {
                 let line = own.unrounded_tnl();
@@ -1610,6 +1770,43 @@ mod tests {
             ..RIGHT
         });
         check_wrong_lookups(lookups);
+    }
+
+    /// T of a count by the numbers of a channel, with a mistake in a rounding.
+    fn mistaken_temperature(own: &Constants, count: u16, mistake: RoundingMistake) -> i128 {
+        let (tc, tnl) = (own.cold_temperature, own.nonlinearity);
+        let parts = ChannelParts::of_numbers(tc, own.rise, tnl, own.difference);
+        let n = own.slope * count as i128 - own.base;
+        parts.temperature(n, Some(mistake))
+    }
+
+    #[test]
+    fn lookups_behind_halves_differ_by_each_mistake_in_t() {
+        let mut counters = Counters::new();
+        let mut asked = Vec::new();
+        for seed in 0..24 {
+            let run = checked_lookup_run(seed, &mut counters).unwrap();
+            let steps = run.steps.into_iter();
+            asked.extend(steps.map(|step| (step.state, step.answered)));
+        }
+        let wrongs: [fn(&Constants, &[u8], usize, u16) -> i128; 6] = [
+            |own, _, _, count| mistaken_temperature(own, count, In(Place::X, Half::Up)),
+            |own, _, _, count| mistaken_temperature(own, count, In(Place::X, Half::Down)),
+            |own, _, _, count| mistaken_temperature(own, count, In(Place::LinearPart, Half::Up)),
+            |own, _, _, count| mistaken_temperature(own, count, In(Place::LinearPart, Half::Down)),
+            |own, _, _, count| mistaken_temperature(own, count, In(Place::Bend, Half::Up)),
+            |own, _, _, count| mistaken_temperature(own, count, In(Place::Bend, Half::Down)),
+        ];
+        for (index, temperature) in wrongs.into_iter().enumerate() {
+            let lookup = Lookup {
+                temperature,
+                ..RIGHT
+            };
+            let differs = lookup_differs(&asked, |state, channel, wanted, count| {
+                lookup.of(state, channel, wanted, count)
+            });
+            assert!(differs, "way {index}");
+        }
     }
 
     #[test]

@@ -221,7 +221,7 @@ fn open_bias(bytes: &[u8]) -> u8 {
 }
 
 /// The pairs of an accepted bias file as the writer of a product takes them, channel by channel: for
-/// each position 65,536 + e and 65,536 (c0 + 32,768) + 32,768.
+/// each position 65,536 + e and 65,536 (c0 + 32,768) + 32,767.
 #[derive(Clone)]
 pub struct Pairs(Vec<u32>);
 
@@ -230,7 +230,7 @@ impl Pairs {
         assert_eq!(open_bias(bias), 0);
         let raised = |at: usize| u16::from_be_bytes([bias[at], bias[at + 1]]) ^ 0x8000;
         let factor = |k: usize| raised(5 + 4 * k) as u32 + 32_768;
-        let offset = |k: usize| 65_536 * raised(3 + 4 * k) as u32 + 32_768;
+        let offset = |k: usize| 65_536 * raised(3 + 4 * k) as u32 + 32_767;
         Pairs((0..2_112).flat_map(|k| [factor(k), offset(k)]).collect())
     }
 }
@@ -530,7 +530,7 @@ fn calibrate(input: &ListingInput) -> (Vec<u8>, String) {
 }
 
 /// The comparisons by the name that `--case` takes, and how many cases of each are run for a thousand.
-pub const KINDS: [(&str, Check, u64); 33] = [
+pub const KINDS: [(&str, Check, u64); 34] = [
     (
         "floor_div",
         |seed, counters| against::divisions(seed, floor_div, counters),
@@ -592,6 +592,11 @@ pub const KINDS: [(&str, Check, u64); 33] = [
         "one_shelf",
         |seed, counters| against::one_shelf(seed, outcomes_at_once, counters),
         5,
+    ),
+    (
+        "halves",
+        |seed, counters| against::halves(seed, outcomes_at_once, guarded_feed, counters),
+        10,
     ),
     (
         "one_call",

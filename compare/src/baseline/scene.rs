@@ -27,10 +27,19 @@ pub enum Scene {
     Guard,
 }
 
-/// r(a, b), b above 0.
+/// r(a, b), b above 0: halves up, and one less where that leaves a half odd. A branch would be missed too often.
 #[inline(always)]
 pub fn r(a: i64, b: i64) -> i64 {
-    (2 * a + b).div_euclid(2 * b)
+    let (a, b) = (2 * a + b, 2 * b);
+    let (up, rest) = (a.div_euclid(b), a.rem_euclid(b));
+    up - (i64::from(rest == 0) & up)
+}
+
+/// r(a, 2^bits): a half is carried where the floor is odd.
+#[inline(always)]
+fn r_of_power(a: i64, bits: u32) -> i64 {
+    let odd = (a >> bits) & 1;
+    (a + (1 << (bits - 1)) - 1 + odd) >> bits
 }
 
 /// The scene of a count at the position of a pair. N is below 2^36 and the rise below 2^21, so nothing
@@ -42,11 +51,11 @@ pub fn scene(k: &Constants, pair: Pair, count: u16) -> Scene {
         return Scene::Outside;
     }
     let x = r(65_536 * n, k.d);
-    let t = k.tc + r(n * k.rise, k.d) + r(4 * x * (65_536 - x) * k.tnl, 1 << 32);
+    let t = k.tc + r(n * k.rise, k.d) + r_of_power(4 * x * (65_536 - x) * k.tnl, 32);
     if !(1..=16_777_215).contains(&t) {
         return Scene::Guard;
     }
-    let b = pair.c0 as i64 + r((65_536 + pair.e as i64) * t, 65_536);
+    let b = pair.c0 as i64 + r_of_power((65_536 + pair.e as i64) * t, 16);
     Scene::Kelvin(b as f32 * (1.0 / 4096.0))
 }
 
@@ -66,6 +75,7 @@ impl Scene {
 mod tests {
     use super::*;
     use crate::generator::random::Random;
+    use crate::second::rounding;
 
     const NO_BIAS: Pair = Pair { c0: 0, e: 0 };
 
@@ -129,9 +139,47 @@ mod tests {
         counts
     }
 
+    #[test]
+    fn halves_go_to_the_even_neighbour() {
+        let rows = [(1, 0), (3, 2), (5, 2), (-1, 0), (-3, -2), (-5, -2)];
+        for (halves, even) in rows {
+            assert_eq!(r(halves, 2), even, "{halves} halves");
+            assert_eq!(r(7 * halves, 14), even, "{halves} halves");
+            for bits in [1, 16, 32] {
+                let a = halves << (bits - 1);
+                assert_eq!(r_of_power(a, bits), even, "{halves} halves");
+                // Beside a half the nearest is taken.
+                if bits > 1 {
+                    let below = halves.div_euclid(2);
+                    assert_eq!(r_of_power(a - 1, bits), below);
+                    assert_eq!(r_of_power(a + 1, bits), below + 1);
+                }
+            }
+        }
+    }
+
+    #[test]
+    fn roundings_agree_with_the_second_implementation() {
+        for a in -200..=200 {
+            for b in 1..=24 {
+                let expected = rounding::r(a as i128, b as i128);
+                assert_eq!(r(a, b) as i128, expected, "r({a}, {b})");
+            }
+            for bits in 1..=6 {
+                let expected = rounding::r(a as i128, 1 << bits);
+                assert_eq!(r_of_power(a, bits) as i128, expected, "{a}, {bits} bits");
+            }
+        }
+    }
+
     /// The headings Scenes and scan bias in i128, word by word.
     fn formula(k: &Constants, pair: Pair, count: u16) -> f32 {
-        let r = |a: i128, b: i128| (2 * a + b).div_euclid(2 * b);
+        // Of the numbers beside a / b the one that is nearest, and of two the even one.
+        let r = |a: i128, b: i128| {
+            let beside = [a.div_euclid(b), a.div_euclid(b) + 1];
+            let by_distance = |whole: &i128| ((a - whole * b).abs(), whole.rem_euclid(2));
+            beside.into_iter().min_by_key(by_distance).unwrap()
+        };
         let n = k.slope as i128 * count as i128 - k.base as i128;
         let d = k.d as i128;
         if n < 0 || 4 * n > 5 * d {
@@ -222,7 +270,8 @@ mod tests {
         assert_eq!(units(565_394, 0, 0), 565_394.0);
         assert_eq!(units(565_395, 4_096, -32_768), 286_794.0);
         assert_eq!(units(565_394, -4_096, 32_767), 843_986.0);
-        assert_eq!(units(32_768, -1, 1), 32_768.0);
+        assert_eq!(units(565_393, 4_096, -32_768), 286_792.0);
+        assert_eq!(units(32_768, -1, 1), 32_767.0);
         assert_eq!(units(32_768, 1, -1), 32_769.0);
     }
 }

@@ -5,6 +5,8 @@ use std::collections::BTreeMap;
 
 use super::counters::Counters;
 use super::kept_channels::{first_number, KeptChannel};
+use super::numbers::rounded;
+use super::roundings::{rounded_of_terms, ChannelParts, Half, Place, Rounded, RoundingMistake};
 use super::rules::{is_biased, pair};
 use super::states::reasons;
 use crate::generator::lists::{Feed, FeedList};
@@ -53,10 +55,9 @@ fn plain_temperature(own: &KeptChannel, count: u16) -> Option<i128> {
     if n < 0 || 4 * n > 5 * own.d {
         return None;
     }
-    let nearest = |a: i128, b: i128| (2 * a + b).div_euclid(2 * b);
-    let x = nearest(65_536 * n, own.d);
-    let curve = nearest(4 * x * (65_536 - x) * own.tnl, 1 << 32);
-    let t = own.tc + nearest(n * own.rise, own.d) + curve;
+    let x = rounded(65_536 * n, own.d);
+    let curve = rounded(4 * x * (65_536 - x) * own.tnl, 1 << 32);
+    let t = own.tc + rounded(n * own.rise, own.d) + curve;
     (1..=16_777_215).contains(&t).then_some(t)
 }
 
@@ -454,6 +455,52 @@ fn channel_questions(
         .collect())
 }
 
+/// The halves of X, the linear part and the bend of a count that would be another T if they went the other way.
+fn showing_halves(own: &KeptChannel, count: u16) -> Vec<Rounded> {
+    let parts = ChannelParts::of_numbers(own.tc, own.rise, own.tnl, own.d);
+    let n = own.slope * count as i128 - own.base;
+    let t = |mistake: Option<RoundingMistake>| parts.temperature(n, mistake);
+    let shows = |half: &Rounded| {
+        let other = RoundingMistake::In(half.place, Half::Odd);
+        half.is_half() && t(Some(other)) != t(None)
+    };
+    let terms = rounded_of_terms(n, own.d, own.rise, own.tnl);
+    terms.into_iter().filter(shows).collect()
+}
+
+/// Questions at and beside T of some earth counts of a feed with such halves, in the channels that were formed.
+fn half_questions(
+    random: &mut Random,
+    asked: &Asked,
+    feed: &Feed,
+    counters: &mut Counters,
+) -> Vec<Question> {
+    let mut questions = Vec::new();
+    for (channel, delivered) in &asked.delivered {
+        let own = asked.kept(*channel).expect("a formed channel is kept");
+        let first = 405 + 192 * (*channel as usize - 1);
+        let counts = feed.record[first..first + 192].chunks(2);
+        let mut halves = Vec::new();
+        for count in counts.map(|two| u16::from_be_bytes([two[0], two[1]])) {
+            if let Ok(place) = delivered.binary_search_by_key(&count, |(count, _)| *count) {
+                let showing = showing_halves(&own, count).into_iter();
+                halves.extend(showing.map(|half| (half, delivered[place].1)));
+            }
+        }
+        random.shuffle(&mut halves);
+        for place in [Place::X, Place::LinearPart, Place::Bend] {
+            let own = halves.iter().filter(|(half, _)| half.place == place);
+            for (half, t) in own.take(3) {
+                let class = format!("{}, {}", place.name(), half.way());
+                counters.met("half behind a wanted T", &class);
+                let wanted = [t - 1, *t, t + 1];
+                questions.extend(wanted.map(|wanted| Question::new(random, *channel, wanted)));
+            }
+        }
+    }
+    questions
+}
+
 /// One step of a run: a feed, or none for the fresh state; what it answers and the state after it; and what
 /// lookups leave there.
 #[derive(Clone, Debug)]
@@ -608,7 +655,8 @@ pub fn checked_lookup_run(seed: u64, counters: &mut Counters) -> Result<LookupRu
     let mut running = run_to_asked(&plan, &mut random, counters)?;
     let feed = &plan.list.feeds[plan.asked()];
     let mut asked = running.asked();
-    let questions = aimed_questions(&mut random, &mut asked, counters)?;
+    let mut questions = aimed_questions(&mut random, &mut asked, counters)?;
+    questions.extend(half_questions(&mut random, &asked, feed, counters));
     for (channel, delivered) in &asked.delivered {
         let (bias, product) = (&plan.list.bias, &running.buffer);
         check_scenes(delivered, *channel, feed, bias, product, counters)?;

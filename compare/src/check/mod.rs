@@ -14,6 +14,10 @@ pub mod shelves;
 
 pub mod rules;
 
+pub mod roundings;
+
+pub mod halves;
+
 pub mod samples;
 
 pub mod products;

@@ -3,20 +3,22 @@
 use std::collections::BTreeMap;
 
 use super::counters::Counters;
+use super::halves::count_halves;
+use super::numbers::is_half;
+use super::roundings::{ChannelParts, ScenePart};
 use super::rules::{self, Pair};
 use super::shelves::{count_shelf, Line, ShelfAndPairs};
 use crate::second::bytes::layout_is_right;
 use crate::second::product::{flag_of, number_of, scene_of, summary_of, LAYOUT};
 use crate::second::record::{ScanRecord, SCENES};
-use crate::second::rounding::r;
 use crate::second::shelf::nonlinearity_for_scan;
 use crate::second::table::{Table, CHANNELS};
 
-/// A delivered scene: B in kelvin, and T in units.
+/// A delivered scene: B in kelvin, and in units what it is made of.
 #[derive(Clone, Copy, Debug)]
 struct Delivered {
     kelvin: f32,
-    t: i128,
+    part: ScenePart,
 }
 
 /// What is checked of the scenes of one channel.
@@ -61,21 +63,39 @@ impl ChannelCheck<'_> {
             return Ok(None);
         }
         let pair = rules::pair(self.bias, self.channel, position);
-        let t = self
+        let (t, b) = self
             .temperature(count, value, pair, counters)
             .map_err(|what| format!("{about}: {what}"))?;
-        self.count_halves(n, d, counters);
-        Ok(Some(Delivered { kelvin: value, t }))
+        Ok(Some(Delivered {
+            kelvin: value,
+            part: ScenePart { n, pair, t, b },
+        }))
     }
 
-    /// Checks a temperature in kelvin, after scan bias, and gives T, before it.
+    /// Counts the halves behind delivered scenes.
+    fn count_halves(&self, delivered: &[Delivered], counters: &mut Counters) -> Result<(), String> {
+        let values = &self.table.channels[self.channel];
+        let parts = ChannelParts {
+            q: self.sums.thermometer,
+            p: self.sums.thermometer_weight,
+            b: values.warm_bias,
+            tc: rules::cold_and_warm(self.table, self.channel, &self.sums).0,
+            line: self.line,
+            d: rules::difference(&self.sums),
+        };
+        let scenes: Vec<ScenePart> = delivered.iter().map(|one| one.part).collect();
+        count_halves(self.channel, &parts, &scenes, counters)
+            .map_err(|what| format!("channel {}: {what}", self.channel + 1))
+    }
+
+    /// Checks a temperature in kelvin, after scan bias, and gives T, before it, and B.
     fn temperature(
         &self,
         count: u16,
         kelvin: f32,
         pair: Pair,
         counters: &mut Counters,
-    ) -> Result<i128, String> {
+    ) -> Result<(i128, i128), String> {
         let units = kelvin as f64 * 4096.0;
         if !(units >= 1.0 && units <= 16_777_215.0 && units.fract() == 0.0) {
             return Err(format!("{kelvin} is no temperature"));
@@ -99,18 +119,7 @@ impl ChannelCheck<'_> {
         let classes = ["within 2 of equation 30", "beyond 2 of equation 30"];
         counters.met("scan bias", near(near_equation_30(32), classes));
         count_bias(t, pair, counters);
-        Ok(t)
-    }
-
-    fn count_halves(&self, n: i128, d: i128, counters: &mut Counters) {
-        let x = r(65_536 * n, d);
-        let term = 4 * x * (65_536 - x) * self.tnl;
-        let half = term.rem_euclid(1 << 32) == 1 << 31;
-        if half && term < 0 {
-            counters.met("rounding of a scene", "half of a negative");
-        } else if half || 2 * (65_536 * n).rem_euclid(d) == d {
-            counters.met("rounding of a scene", "half");
-        }
+        Ok((t, b))
     }
 
     fn count_edges(&self, count: u16, n: i128, d: i128, counters: &mut Counters) {
@@ -149,7 +158,7 @@ fn count_bias(t: i128, pair: Pair, counters: &mut Counters) {
     if pair.c0 == 0 && pair.e == 0 {
         met("none");
     }
-    if rules::is_half(t, pair) {
+    if is_half((65_536 + pair.e) * t, 65_536) {
         let above = pair.e > 0;
         met(if above {
             "half, e above 0"
@@ -171,10 +180,11 @@ fn count_moved_ends(delivered: &[Delivered], counters: &mut Counters) {
     let by_kelvin = |one: &&Delivered, other: &&Delivered| one.kelvin.total_cmp(&other.kelvin);
     let lowest = delivered.iter().min_by(by_kelvin);
     let highest = delivered.iter().max_by(by_kelvin);
-    if lowest.is_some_and(|lowest| delivered.iter().any(|one| one.t < lowest.t)) {
+    let t = |one: &Delivered| one.part.t;
+    if lowest.is_some_and(|lowest| delivered.iter().any(|one| t(one) < t(lowest))) {
         counters.met("scan bias", "another scene is lowest");
     }
-    if highest.is_some_and(|highest| delivered.iter().any(|one| one.t > highest.t)) {
+    if highest.is_some_and(|highest| delivered.iter().any(|one| t(one) > t(highest))) {
         counters.met("scan bias", "another scene is highest");
     }
 }
@@ -253,6 +263,7 @@ fn check_channel(
     count_moved_ends(&delivered, counters);
     if !delivered.is_empty() {
         count_shelf(&shelf, counters);
+        check.count_halves(&delivered, counters)?;
     }
     let summary = summary_of(product, channel);
     let kelvin = || delivered.iter().map(|one| one.kelvin);
@@ -413,11 +424,11 @@ mod tests {
             checked_as(&product, &table, &zeros, &bench)
         };
         for (place, first_channel) in [(0, 1), (1, 3), (2, 16), (3, 17)] {
-            // Up to half way TNL stays 400.
-            for temperature in [-61_439, 0, 61_440] {
+            // Up to half way, to both sides, TNL stays 400.
+            for temperature in [-61_440, 0, 61_440] {
                 assert_eq!(with_shelf(place, temperature), Ok(()));
             }
-            for temperature in [-61_440, 61_441] {
+            for temperature in [-61_441, 61_441] {
                 let said = with_shelf(place, temperature).unwrap_err();
                 let channel = format!("channel {first_channel} count 15000: ");
                 assert!(said.starts_with(&channel), "{said}");
@@ -430,7 +441,7 @@ mod tests {
     fn the_bias_of_each_scene_is_checked() {
         let mut bias = BiasValues::zeros();
         bias.pairs[0][0] = PairValues { c0: -7, e: -16_384 };
-        // 3/4 × 565,394 - 7 = 424,038.5, rounded up.
+        // 3/4 × 565,394 = 424,045.5, of which the even neighbour is 424,046; less 7.
         assert_eq!(with_units(&bias, 424_039), Ok(()));
         for units in [424_035, 424_038, 424_040, 424_042] {
             assert!(with_units(&bias, units).unwrap_err().contains("not T"));

@@ -5,6 +5,7 @@ use std::panic::{catch_unwind, AssertUnwindSafe};
 use super::biases::{check_bias, check_bias_neighbours};
 use super::calls::check_call;
 use super::counters::Counters;
+use super::halves::check_halves;
 use super::listings::check_listing;
 use super::lists::check_list;
 use super::lookups::{
@@ -26,7 +27,7 @@ use crate::generator::random::case_seed;
 pub type Check = fn(u64, &mut Counters) -> Result<(), String>;
 
 /// The kinds of cases, by the name that `--case` takes.
-pub const KINDS: [(&str, Check); 25] = [
+pub const KINDS: [(&str, Check); 26] = [
     ("division", check_divisions),
     ("neighbours", check_neighbours),
     ("table", check_table),
@@ -36,6 +37,7 @@ pub const KINDS: [(&str, Check); 25] = [
     ("list", check_list),
     ("zeros", check_zeros),
     ("one_shelf", check_one_shelf),
+    ("halves", check_halves),
     ("one_call", check_call),
     ("listing", check_listing),
     ("fresh", check_fresh),
@@ -120,6 +122,7 @@ pub fn run_all(seed: u64, feeds: u64, counters: &mut Counters) -> Result<(), Fai
             "thermometer" => 5 * feeds,
             "zeros" => feeds / 100 + 1,
             "one_shelf" => feeds / 200 + 1,
+            "halves" => feeds / 200 + 1,
             "one_call" => feeds / 80 + 1,
             "listing" => feeds / 25 + 1,
             "fresh" => feeds / 10 + 1,

@@ -2,6 +2,7 @@
 //! hand in the bytes of table and record, and by multiplying out.
 
 use super::counters::Counters;
+use super::numbers::is_nearest;
 
 /// The shelf of each channel in order, KKA as K.
 const SHELF_OF: [u8; 22] = *b"KKVVVVVVVVVVVVVWGGGGGG";
@@ -40,20 +41,17 @@ pub struct ShelfAndPairs {
 #[derive(Clone, Copy, Debug)]
 pub struct Line {
     /// TNL of the pairs between which it runs; beyond the ends of one pair twice.
-    ends: [i128; 2],
+    pub ends: [i128; 2],
     pub parts: i128,
     pub unit: i128,
 }
 
 impl Line {
-    /// Whether a whole number is the nearest to TNL on the line, halves up, and from the one end to the other.
+    /// Whether a whole number is the nearest to TNL on the line, at a half the even one, and from the one end to the
+    /// other.
     pub fn is_rounded_to(&self, tnl: i128) -> bool {
-        let twice_above = 2 * (self.unit * tnl - self.parts);
         let [one, other] = self.ends;
-        -self.unit < twice_above
-            && twice_above <= self.unit
-            && one.min(other) <= tnl
-            && tnl <= one.max(other)
+        is_nearest(self.parts, self.unit, tnl) && one.min(other) <= tnl && tnl <= one.max(other)
     }
 
     /// Whether TNL is the same on both, unrounded.
@@ -182,8 +180,10 @@ fn count_line(line: &Line, counters: &mut Counters) {
         "at or above 0"
     };
     counters.met("rounding of TNL", &format!("{way}, {side}"));
-    if 2 * line.parts == -line.unit {
-        counters.met("rounding of TNL", "-1/2 to 0");
+    match 2 * line.parts {
+        twice if twice == line.unit => counters.met("rounding of TNL", "1/2 to 0"),
+        twice if twice == -line.unit => counters.met("rounding of TNL", "-1/2 to 0"),
+        _ => {}
     }
 }
 
@@ -211,11 +211,11 @@ mod tests {
             (-11, 3),
             (-10, 3),
             // 2.5, 2, 1.5, 1 and 0.5.
-            (-9, 3),
+            (-9, 2),
             (-8, 2),
             (-7, 2),
             (-6, 1),
-            (-5, 1),
+            (-5, 0),
             (-4, 0),
             // -0.25, -0.5 and -0.75.
             (-3, 0),
@@ -284,6 +284,7 @@ mod tests {
         assert_eq!(rounded(-8), ["exact, at or above 0"]);
         assert_eq!(rounded(-3), ["up, below 0"]);
         assert_eq!(rounded(-2), ["half, below 0", "-1/2 to 0"]);
+        assert_eq!(rounded(-5), ["half, at or above 0", "1/2 to 0"]);
         assert_eq!(rounded(-1), ["down, below 0"]);
         assert_eq!(rounded(0), [""; 0]);
         let runs = |shelf: i32| classes("line between two pairs", shelf);

@@ -61,7 +61,7 @@ pub fn reasons(bytes: &[u8]) -> Vec<&'static str> {
     if bytes[3..7] != *b"SNDR" {
         all.push("magic number");
     }
-    if bytes[7..11] != [0, 0, 0, 5] {
+    if bytes[7..11] != [0, 0, 0, 6] {
         all.push("version");
     }
     match plain_answer(&bytes[14..1_418]) {
@@ -127,7 +127,7 @@ fn count_state(bytes: &[u8], reasons: &[&str], counters: &mut Counters) {
         return;
     }
     count_kept(bytes, counters);
-    if let version @ 0..=6 = u32_at(bytes, 7) {
+    if let version @ 0..=7 = u32_at(bytes, 7) {
         counters.met("version of a state", &version.to_string());
     }
     let bias = &bytes[3_326..11_777];

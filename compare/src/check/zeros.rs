@@ -131,8 +131,8 @@ mod tests {
                 product[at..at + 4].copy_from_slice(&value.to_bits().to_be_bytes())
             }
         };
-        // 5 + 5/4 × 565,394 = 706,747.5, rounded up.
-        let right = 706_748.0 / 4096.0;
+        // 5/4 × 565,394 = 706,742.5, of which the even neighbour is 706,742; and 5.
+        let right = 706_747.0 / 4096.0;
         assert_eq!(checked(&put(39, right)), Ok(()));
         let unit = 1.0 / 4096.0;
         assert!(checked(&put(39, right - unit))

@@ -17,7 +17,7 @@ use crate::second::thermometer::{HIGHEST_T, KELVIN_OF_ZERO_CELSIUS, LOWEST_T};
 use crate::second::window::{channel_sums, flag, window, WindowScan};
 
 /// Ones, small weights, or weights of which every sum from 1 to 255 can be had.
-fn count_weights(random: &mut Random) -> [u8; 8] {
+pub(super) fn count_weights(random: &mut Random) -> [u8; 8] {
     let mut weights = match random.below(3) {
         0 => [1; 8],
         1 => std::array::from_fn(|_| random.between(0, 4) as u8),
@@ -28,16 +28,16 @@ fn count_weights(random: &mut Random) -> [u8; 8] {
 }
 
 /// The ages whose numbers are there: the current scan, and all others or most of them.
-fn ages_there(random: &mut Random) -> Ages {
+pub(super) fn ages_there(random: &mut Random) -> Ages {
     let missing = random.next() & random.next() & 0xfe;
     random.pick(&[0xff, !(missing as u8)])
 }
 
 /// The ages at which the warm and the cold side of a channel are good.
 #[derive(Clone, Copy, Debug, PartialEq, Eq)]
-struct GoodAges {
-    warm: Ages,
-    cold: Ages,
+pub(super) struct GoodAges {
+    pub(super) warm: Ages,
+    pub(super) cold: Ages,
 }
 
 /// All good ages by which a channel can have these numbers and, of either side, at least a hundredth of
@@ -69,15 +69,15 @@ fn good_ages(weights: &[u8; 8], there: Ages, six: &SixNumbers) -> Vec<GoodAges> 
 }
 
 /// A list in the making.
-struct Draft {
-    table: TableValues,
+pub(super) struct Draft {
+    pub(super) table: TableValues,
     /// By age, those of missing numbers too.
-    records: [RecordValues; 8],
-    there: Ages,
+    pub(super) records: [RecordValues; 8],
+    pub(super) there: Ages,
 }
 
 impl Draft {
-    fn new(random: &mut Random, weights: [u8; 8], there: Ages) -> Draft {
+    pub(super) fn new(random: &mut Random, weights: [u8; 8], there: Ages) -> Draft {
         let mut table = TableValues::bench();
         table.count_weights = weights;
         let any = random.between(20, u32::MAX as i64) as u32;
@@ -95,7 +95,7 @@ impl Draft {
     }
 
     /// Makes the counts of a channel, and its rows of the table but for b: whether counts were found.
-    fn make_channel(
+    pub(super) fn make_channel(
         &mut self,
         random: &mut Random,
         channel: usize,
@@ -135,7 +135,7 @@ impl Draft {
 
     /// Makes the thermometers: each target near Tw, as far as b reaches, and in some scans one of its
     /// thermometers rejected.
-    fn make_thermometers(&mut self, random: &mut Random, tw: i128) {
+    pub(super) fn make_thermometers(&mut self, random: &mut Random, tw: i128) {
         let table = &mut self.table;
         table.thermometer_weights = loop {
             let weights = random_weights(random);
@@ -177,7 +177,7 @@ impl Draft {
         }
     }
 
-    fn open(&self) -> Table {
+    pub(super) fn open(&self) -> Table {
         open(&self.table.encode()).expect("every value is inside its range")
     }
 
@@ -190,19 +190,24 @@ impl Draft {
     }
 
     /// The records of the window as they are read, the last one last.
-    fn roll(&self) -> Vec<ScanRecord> {
+    pub(super) fn roll(&self) -> Vec<ScanRecord> {
         let records = self.records_there();
         let read = |record: &RecordValues| ScanRecord::read(&record.encode());
         let roll: Result<Vec<ScanRecord>, u8> = records.iter().map(read).collect();
         roll.expect("the encoder's layout is right")
     }
 
-    /// Sets b so that each channel has this Tw, and percentages that all meet: whether there are such.
-    fn settle(&mut self, random: &mut Random, scans: &[WindowScan], tw: i128) -> bool {
+    /// Sets b so that each channel has its Tw, and percentages that all meet: whether there are such.
+    pub(super) fn settle(
+        &mut self,
+        random: &mut Random,
+        scans: &[WindowScan],
+        tw: &[i128; CHANNELS],
+    ) -> bool {
         let table = self.open();
         // Of thermometers, warm and cold counts: the most that every channel meets.
         let mut most = [100; 3];
-        for channel in 0..CHANNELS {
+        for (channel, tw) in tw.iter().enumerate() {
             let sums = channel_sums(&table, scans, channel);
             let p = table.sum_of_target_weights(Target::of_channel(channel));
             let (v, w) = (
@@ -218,7 +223,8 @@ impl Draft {
             if most.contains(&0) {
                 return false;
             }
-            let b = tw - r(sums.thermometers.temperature, sums.thermometers.weight);
+            let mean = r(sums.thermometers.temperature, sums.thermometers.weight);
+            let b = tw - mean;
             if b.abs() > 4_096 {
                 return false;
             }
@@ -233,18 +239,23 @@ impl Draft {
         true
     }
 
-    /// Whether every channel has flag 0 and these numbers in the feed of the current record.
-    fn has_numbers(&self, current: &ScanRecord, scans: &[WindowScan], six: &SixNumbers) -> bool {
+    /// Whether every channel has flag 0 and its numbers in the feed of the current record.
+    pub(super) fn has_numbers(
+        &self,
+        current: &ScanRecord,
+        scans: &[WindowScan],
+        six: &[SixNumbers; CHANNELS],
+    ) -> bool {
         let table = self.open();
         (0..CHANNELS).all(|channel| {
             let sums = channel_sums(&table, scans, channel);
             let own = || SixNumbers::of(&table, current, channel, &sums);
-            flag(&table, channel, &sums) == 0 && own() == *six
+            flag(&table, channel, &sums) == 0 && own() == six[channel]
         })
     }
 
     /// The window's records, often after an older one, and some refused feeds before them.
-    fn feeds(&self, random: &mut Random) -> Vec<Feed> {
+    pub(super) fn feeds(&self, random: &mut Random) -> Vec<Feed> {
         let current = self.records[0].number;
         let mut records = self.records_there();
         if current > 100 && random.once_in(2) {
@@ -304,7 +315,9 @@ pub fn list_with(random: &mut Random, six: &SixNumbers) -> Option<FeedList> {
     let roll = draft.roll();
     let scans = window(&draft.open(), &roll);
     let current = roll.last()?;
-    if !draft.settle(random, &scans, tw) || !draft.has_numbers(current, &scans, six) {
+    if !draft.settle(random, &scans, &[tw; CHANNELS])
+        || !draft.has_numbers(current, &scans, &[*six; CHANNELS])
+    {
         return None;
     }
     Some(FeedList {

@@ -1,6 +1,7 @@
 //! Lookups of the count behind a temperature: questions that aim at the edges of what a channel delivers, and
 //! lists and states that are asked.
 
+use super::halves::halves_list;
 use super::kept_channels::delivering_channel;
 use super::layouts::{head_positions, RECORD};
 use super::lists::{feed_list, short_buffer, Feed, FeedList};
@@ -113,14 +114,35 @@ fn refused_feed(random: &mut Random, feed: &Feed, last: u32, number: u8) -> Feed
     refused
 }
 
+/// A list with halves in its last feed but one: the last has the same samples and the next number.
+fn list_behind_halves(random: &mut Random) -> FeedList {
+    loop {
+        let mut list = halves_list(random.next());
+        let mut next = list.feeds[list.feeds.len() - 1].clone();
+        let mut record = RecordValues::decode(&next.record);
+        if let Some(number) = record.number.checked_add(1) {
+            record.number = number;
+            next.record = record.encode();
+            list.feeds.push(next);
+            return list;
+        }
+    }
+}
+
 pub fn asked_list(seed: u64) -> AskedList {
     let mut random = Random::new(seed);
+    let has_halves = random.once_in(3);
     loop {
-        let mut list = feed_list(random.next());
+        let mut list = if has_halves {
+            list_behind_halves(&mut random)
+        } else {
+            feed_list(random.next())
+        };
         let accepted = accepted_feeds(&list);
         let is_right =
             |index: &usize| accepted[*index] == Some(true) && accepted[index + 1].is_some();
-        let places: Vec<usize> = (0..accepted.len() - 1).filter(is_right).collect();
+        let first = if has_halves { accepted.len() - 2 } else { 0 };
+        let places: Vec<usize> = (first..accepted.len() - 1).filter(is_right).collect();
         if places.is_empty() {
             continue;
         }

@@ -58,4 +58,6 @@ pub mod aimed_windows;
 
 pub mod six_numbers;
 
+pub mod halves;
+
 pub mod lookups;

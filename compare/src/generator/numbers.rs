@@ -22,6 +22,18 @@ fn edge_number(random: &mut Random) -> i64 {
     }
 }
 
+/// Halves at the ends of 64 bits: of the ends of a, and of the greatest even b.
+const HALVES_AT_ENDS: [(i64, i64); 8] = [
+    (i64::MIN + 1, 2),
+    (i64::MIN + 3, 2),
+    (i64::MAX, 2),
+    (i64::MAX - 2, 2),
+    (i64::MAX / 2, i64::MAX - 1),
+    (-(i64::MAX / 2), i64::MAX - 1),
+    (i64::MAX / 2 + 1, i64::MAX - 1),
+    (-(i64::MAX / 2) - 1, i64::MAX - 1),
+];
+
 /// Pairs (a, b) of 64 bits with b above 0: ends, multiples, one beside them, halves.
 pub fn division_pairs(seed: u64, count: usize) -> Vec<(i64, i64)> {
     let mut random = Random::new(seed);
@@ -33,8 +45,11 @@ pub fn division_pairs(seed: u64, count: usize) -> Vec<(i64, i64)> {
         (i64::MAX, 1),
         (-1, i64::MAX),
     ];
+    pairs.extend(HALVES_AT_ENDS);
     while pairs.len() < count {
-        let b = edge_number(&mut random).saturating_abs().max(1);
+        let small = random.between(1, 6);
+        let edge = edge_number(&mut random).saturating_abs().max(1);
+        let b = random.pick(&[small, edge, edge]);
         let a = match random.below(4) {
             // A whole multiple of b, or one beside it.
             0 => {

@@ -85,12 +85,14 @@ fn distance(pairs: &[ShelfPairValues; 5], shelves: [i32; 2]) -> i128 {
     (one - other).abs()
 }
 
-/// Pairs with which TNL at two such shelf temperatures is at least 4 units apart.
+/// Pairs with which TNL at two such shelf temperatures is at least 5 units apart. 4x(1 - x) is about 16/25 at the
+/// least, so that T is at least 3 units apart, and B another. Two T of 2 units apart can have one B under the least
+/// e, which halves them: 3/2 and 5/2 have the same even neighbour.
 fn pairs_between(random: &mut Random, shelves: [i32; 2]) -> [ShelfPairValues; 5] {
     for _ in 0..20 {
         let temperatures = random_temperatures(random);
         let pairs = shelf_pairs(temperatures, random_nonlinearities(random));
-        if distance(&pairs, shelves) >= 4 {
+        if distance(&pairs, shelves) >= 5 {
             return pairs;
         }
     }
@@ -141,7 +143,7 @@ fn scans_between(random: &mut Random, shelves: &[[i32; 2]; 4]) -> Vec<Feed> {
 }
 
 /// For each shelf two lists of which every channel has flag 0 and every scene is delivered, and which differ in
-/// this shelf of the last feed but one so that TNL of each of its channels is at least 4 units apart.
+/// this shelf of the last feed but one so that TNL of each of its channels is at least 5 units apart.
 pub fn each_shelf_apart(seed: u64) -> [OneShelfApart; 4] {
     let mut random = Random::new(seed);
     let shelves: [[i32; 2]; 4] = std::array::from_fn(|_| distant_shelves(&mut random));
@@ -191,7 +193,7 @@ mod tests {
         for _ in 0..500 {
             let shelves = distant_shelves(&mut random);
             let pairs = pairs_between(&mut random, shelves);
-            assert!(distance(&pairs, shelves) >= 4, "{pairs:?} {shelves:?}");
+            assert!(distance(&pairs, shelves) >= 5, "{pairs:?} {shelves:?}");
         }
     }
 }

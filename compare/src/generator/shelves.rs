@@ -218,10 +218,54 @@ pub fn pairs_through(random: &mut Random, shelf: i32, tnl: i16) -> [ShelfPairVal
     }
 }
 
+/// Five temperatures of which this one and the next are given, the others some steps below and above them; none
+/// where they do not fit.
+fn temperatures_around(random: &mut Random, place: usize, two: [i32; 2]) -> Option<[i32; 5]> {
+    let step = random.pick(&[1, 7, 1_000, 20_000]);
+    let temperatures: [i32; 5] = std::array::from_fn(|index| {
+        let steps = index as i32 - place as i32;
+        if index <= place {
+            two[0] + step * steps
+        } else {
+            two[1] + step * (steps - 1)
+        }
+    });
+    (temperatures[0] >= LOWEST && temperatures[4] <= HIGHEST).then_some(temperatures)
+}
+
+/// Pairs whose line at this shelf temperature is half a unit below or above this even TNL, which so is rounded to
+/// it; none where the try does not fit.
+///
+/// From one pair to the next are an even number of units, TNL rises by an odd number of halves of it, and the shelf
+/// is an odd number behind the first.
+pub fn pairs_beside_half(
+    random: &mut Random,
+    shelf: i32,
+    tnl: i16,
+) -> Option<[ShelfPairValues; 5]> {
+    let any = random.between(1, 2_000);
+    let half = random.pick(&[1, 2, 3, any]);
+    let behind = 2 * random.between(0, half - 1) + 1;
+    let odd = 2 * random.between(-4, 3) + 1;
+    let side = random.pick(&[-1, 1]);
+    let from = (2 * tnl as i64 + side - odd * behind) / 2;
+    let to = from + half * odd;
+    if from.abs() > 8_192 || to.abs() > 8_192 {
+        return None;
+    }
+    let (before, place) = (shelf as i64 - behind, random.below(4));
+    let two = [before as i32, (before + 2 * half) as i32];
+    let temperatures = temperatures_around(random, place, two)?;
+    let mut nonlinearities = random_nonlinearities(random);
+    nonlinearities[place..place + 2].copy_from_slice(&[from as i16, to as i16]);
+    Some(shelf_pairs(temperatures, nonlinearities))
+}
+
 #[cfg(test)]
 mod tests {
     use super::*;
     use crate::generator::tables::TableValues;
+    use crate::second::shelf::unrounded_nonlinearity;
     use crate::second::table::{Shelf, CHANNELS, SHELVES};
 
     #[test]
@@ -278,6 +322,32 @@ mod tests {
             level += usize::from(pairs.iter().all(|pair| pair.nonlinearity == tnl));
         }
         assert!(level < 500, "{level}");
+    }
+
+    #[test]
+    fn pairs_beside_a_half_are_rounded_to_their_tnl() {
+        let mut random = Random::new(5);
+        let mut met = [0, 0];
+        for _ in 0..2_000 {
+            let shelf = random.between(LOWEST as i64, HIGHEST as i64) as i32;
+            let tnl = 2 * random.between(-4_096, 4_096) as i16;
+            let Some(pairs) = pairs_beside_half(&mut random, shelf, tnl) else {
+                continue;
+            };
+            let own = pairs.map(|pair| ShelfPair {
+                temperature: pair.temperature as i128,
+                nonlinearity: pair.nonlinearity as i128,
+            });
+            let line = unrounded_nonlinearity(&own, shelf as i128);
+            let twice_above = 2 * (line.numerator - tnl as i128 * line.denominator);
+            assert_eq!(twice_above.abs(), line.denominator, "{pairs:?} at {shelf}");
+            assert_eq!(nonlinearity_at(&pairs, shelf), tnl as i128);
+            assert!(pairs[0].temperature >= LOWEST && pairs[4].temperature <= HIGHEST);
+            let rises = |two: &[ShelfPairValues]| two[0].temperature < two[1].temperature;
+            assert!(pairs.windows(2).all(rises));
+            met[usize::from(twice_above > 0)] += 1;
+        }
+        assert!(met.iter().all(|count| *count > 500), "{met:?}");
     }
 
     #[test]

@@ -4,6 +4,7 @@
 use super::aimed_windows::list_with;
 use super::lists::FeedList;
 use super::random::Random;
+use crate::second::constants::Constants;
 use crate::second::record::ScanRecord;
 use crate::second::shelf::nonlinearity_for_scan;
 use crate::second::table::Table;
@@ -42,6 +43,17 @@ impl SixNumbers {
             d: sums.difference(),
             slope: 12 * sums.cold.weight * sums.warm.weight,
             base: sums.cold.value * sums.warm.weight,
+        }
+    }
+
+    pub fn constants(&self) -> Constants {
+        Constants {
+            cold_temperature: self.tc,
+            rise: self.rise,
+            nonlinearity: self.tnl,
+            difference: self.d,
+            slope: self.slope,
+            base: self.base,
         }
     }
 

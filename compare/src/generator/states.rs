@@ -106,7 +106,7 @@ impl StateValues {
     pub fn encode(&self) -> Vec<u8> {
         let mut bytes = vec![0x30, 0, 8];
         bytes.extend(*b"SNDR");
-        bytes.extend([0, 0, 0, 5]);
+        bytes.extend([0, 0, 0, 6]);
         bytes.extend([0x31, 0x05, 0x7c]);
         bytes.extend(&self.table);
         bytes.extend([0x32, 0, 5]);
@@ -416,11 +416,14 @@ fn full_state(random: &mut Random, table: &TableValues, bias: &BiasValues) -> St
     values
 }
 
-/// A state in the layout of an earlier version: it keeps no channels; up to version 3 its table has no pairs, and
-/// in version 1 there is no bias file.
+/// A state in the layout of an earlier version: version 5 has the layout of today; up to version 4 it keeps no
+/// channels, up to version 3 its table has no pairs, and in version 1 there is no bias file.
 fn earlier_layout(state: &[u8], version: u8) -> Vec<u8> {
-    let mut bytes = state[..11_777].to_vec();
+    let mut bytes = state.to_vec();
     bytes[10] = version;
+    if version < 5 {
+        bytes.truncate(11_777);
+    }
     if version < 4 {
         bytes[12..14].copy_from_slice(&[0x02, 0xe5]);
         bytes.drain(755..1_418);
@@ -510,13 +513,14 @@ pub fn state_neighbours(seed: u64) -> Vec<Neighbour> {
         }
     }
     for front in [
-        *b"RDNS\0\0\0\x05",
+        *b"RDNS\0\0\0\x06",
         *b"SNDR\0\0\0\0",
         *b"SNDR\0\0\0\x01",
         *b"SNDR\0\0\0\x02",
         *b"SNDR\0\0\0\x03",
         *b"SNDR\0\0\0\x04",
-        *b"SNDR\x05\0\0\0",
+        *b"SNDR\0\0\0\x05",
+        *b"SNDR\x06\0\0\0",
     ] {
         let mut bytes = right.clone();
         bytes[3..11].copy_from_slice(&front);
@@ -600,7 +604,7 @@ pub fn state_neighbours(seed: u64) -> Vec<Neighbour> {
     ] {
         push(format!("length {length}"), right[..length].to_vec(), false);
     }
-    for version in [1, 2, 3, 4] {
+    for version in [1, 2, 3, 4, 5] {
         let earlier = earlier_layout(&right, version);
         push(format!("version {version}"), earlier.clone(), false);
         let longer = [&earlier[..], &random.bytes(12_576 - earlier.len())].concat();

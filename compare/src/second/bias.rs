@@ -136,7 +136,8 @@ mod tests {
             (565_394, 0, 0, 37_053_661_184, 565_394),
             (565_395, 4_096, -32_768, 18_526_863_360, 286_794),
             (565_394, -4_096, 32_767, 55_579_926_382, 843_986),
-            (32_768, -1, 1, 2_147_516_416, 32_768),
+            (565_393, 4_096, -32_768, 18_526_797_824, 286_792),
+            (32_768, -1, 1, 2_147_516_416, 32_767),
             (32_768, 1, -1, 2_147_450_880, 32_769),
         ];
         for (temperature, c0, e, product, biased) in rows {
@@ -146,17 +147,38 @@ mod tests {
     }
 
     #[test]
-    fn halves_go_up_at_both_signs_of_e() {
+    fn halves_go_to_the_even_neighbour_at_both_signs_of_e() {
         let biased = |e: i128, temperature: i128| Pair { c0: 0, e }.biased(temperature);
-        // Half of 3 is 1.5; three quarters of 2 are 1.5, and five quarters 2.5.
-        assert_eq!(biased(-32_768, 3), 2);
-        assert_eq!(biased(-16_384, 2), 2);
-        assert_eq!(biased(16_384, 2), 3);
+        // Halves of 3 and 5 are 1.5 and 2.5; three quarters of 2 and 6 are 1.5 and 4.5, and five quarters 2.5 and 7.5.
+        assert_eq!([biased(-32_768, 3), biased(-32_768, 5)], [2, 2]);
+        assert_eq!([biased(-16_384, 2), biased(-16_384, 6)], [2, 4]);
+        assert_eq!([biased(16_384, 2), biased(16_384, 6)], [2, 8]);
         // One 65,536th to each side of a half.
         assert_eq!(biased(-1, 32_767), 32_767);
         assert_eq!(biased(-1, 32_769), 32_768);
         assert_eq!(biased(1, 32_767), 32_767);
         assert_eq!(biased(1, 32_769), 32_770);
+    }
+
+    #[test]
+    fn evenness_is_that_of_the_product_before_c0_is_added() {
+        // Half of 565,395 is 282,697.5, and of 565,393 282,696.5.
+        for c0 in [-4_095, -1, 0, 1, 4_096] {
+            let pair = Pair { c0, e: -32_768 };
+            assert_eq!(pair.biased(565_395), 282_698 + c0);
+            assert_eq!(pair.biased(565_393), 282_696 + c0);
+        }
+    }
+
+    #[test]
+    fn the_product_is_rounded_whole() {
+        // An odd T and the even neighbour of e × T / 65,536 would make the odd one. Of an odd T only the least e
+        // gives a half.
+        let e = -32_768;
+        for (temperature, whole) in [(565_393, 282_696), (565_395, 282_698)] {
+            assert_eq!(Pair { c0: 0, e }.biased(temperature), whole);
+            assert_eq!(temperature + r(e * temperature, ONE), 282_697);
+        }
     }
 
     #[test]

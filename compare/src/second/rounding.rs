@@ -1,5 +1,7 @@
 //! Units and rounding: floor, r and unrounded fractions.
 
+use std::cmp::Ordering;
+
 /// The greatest whole number not above a / b, for b above 0.
 pub fn floor(a: i128, b: i128) -> i128 {
     assert!(b > 0, "a division needs a divisor above 0");
@@ -7,11 +9,21 @@ pub fn floor(a: i128, b: i128) -> i128 {
     a.div_euclid(b)
 }
 
-/// r(a, b): the floor of (2a + b) / (2b), nearest with halves up, for b above 0.
+/// r(a, b): the whole number nearest to a / b, and of two equally near the even one, for b above 0.
 ///
-/// 2a + b and 2b stay inside i128 for every a and b of 64 bits; document 01's values are smaller.
+/// The floor and the whole number above it lie around a / b, so that no other can be nearer. Their distances to it
+/// are compared in bths, of which there are b from the one to the other.
 pub fn r(a: i128, b: i128) -> i128 {
-    floor(2 * a + b, 2 * b)
+    let below = floor(a, b);
+    let above = below + 1;
+    let to_below = a - below * b;
+    let to_above = b - to_below;
+    match to_below.cmp(&to_above) {
+        Ordering::Less => below,
+        Ordering::Greater => above,
+        Ordering::Equal if below % 2 == 0 => below,
+        Ordering::Equal => above,
+    }
 }
 
 /// An unrounded fraction: a pair of whole numbers.
@@ -76,29 +88,63 @@ mod tests {
         }
     }
 
+    fn check_rows(rows: &[(i128, i128, i128)]) {
+        for (a, b, expected) in rows {
+            assert_eq!(r(*a, *b), *expected, "r({a}, {b})");
+        }
+    }
+
     #[test]
-    fn halves_go_up_also_at_negative_numerators() {
-        let rows = [
-            (1, 2, 1),
-            (-1, 2, 0),
+    fn halves_go_to_the_even_neighbour_at_both_signs() {
+        check_rows(&[
+            (1, 2, 0),
             (3, 2, 2),
-            (-3, 2, -1),
+            (5, 2, 2),
+            (7, 2, 4),
+            (-1, 2, 0),
+            (-3, 2, -2),
             (-5, 2, -2),
+            (-7, 2, -4),
+            (5, 10, 0),
+            (15, 10, 2),
             (-5, 10, 0),
-            (-15, 10, -1),
-            (-16, 10, -2),
-            (-14, 10, -1),
-            (-6, 10, -1),
+            (-15, 10, -2),
+            (-25, 10, -2),
+        ]);
+    }
+
+    #[test]
+    fn beside_a_half_the_nearest_is_taken() {
+        check_rows(&[
+            (4, 10, 0),
+            (6, 10, 1),
+            (14, 10, 1),
+            (16, 10, 2),
+            (24, 10, 2),
+            (26, 10, 3),
             (-4, 10, 0),
+            (-6, 10, -1),
+            (-14, 10, -1),
+            (-16, 10, -2),
+            (-24, 10, -2),
+            (-26, 10, -3),
+        ]);
+    }
+
+    #[test]
+    fn an_odd_divisor_has_no_halves() {
+        check_rows(&[
             (7, 1, 7),
             (-7, 1, -7),
             (1, 3, 0),
             (2, 3, 1),
+            (4, 3, 1),
+            (5, 3, 2),
+            (-1, 3, 0),
             (-2, 3, -1),
-        ];
-        for (a, b, expected) in rows {
-            assert_eq!(r(a, b), expected, "r({a}, {b})");
-        }
+            (-4, 3, -1),
+            (-7, 3, -2),
+        ]);
     }
 
     #[test]
@@ -109,6 +155,18 @@ mod tests {
         assert_eq!(r(lowest, 1), lowest);
         assert_eq!(r(lowest, highest), -1);
         assert_eq!(r(highest, highest), 1);
+        // -2^62 is even; 2^62 - 1/2 lies between an odd number and an even one.
+        assert_eq!(r(lowest, 2), lowest / 2);
+        assert_eq!(r(highest, 2), 1 << 62);
+        assert_eq!(r(highest - 2, 2), (1 << 62) - 2);
+        assert_eq!(r(lowest + 1, 2), -(1 << 62));
+        assert_eq!(r(lowest + 3, 2), 2 - (1 << 62));
+        // The greatest even divisor: one half of it, and one and a half.
+        let even = highest - 1;
+        assert_eq!(r(even / 2, even), 0);
+        assert_eq!(r(-even / 2, even), 0);
+        assert_eq!(r(even / 2 + 1, even), 1);
+        assert_eq!(r(-even / 2 - 1, even), -1);
         assert_eq!(floor(lowest, highest), -2);
     }
 

@@ -279,6 +279,7 @@ mod tests {
             e: -32_768,
         };
         assert_eq!(scene(Ok(565_395), pair), units(286_794));
+        assert_eq!(scene(Ok(565_393), pair), units(286_792));
         for mark in [Scene::FlaggedChannel, Scene::Outside, Scene::Guard] {
             assert_eq!(scene(Err(mark), pair), mark);
         }
@@ -344,11 +345,41 @@ mod tests {
     }
 
     #[test]
-    fn halves_go_up_in_a_negative_nonlinear_term() {
-        // At x = 1/4 the term is 3/4 TNL: -1.5 for TNL = -2, which r makes -1.
-        assert_eq!(brightness_temperature(1_000_000, 0, -2, 1, 4), 249_999);
-        // At x = 5/4 it is -5/4 TNL: -2.5 for TNL = 2, which r makes -2.
-        assert_eq!(brightness_temperature(1_000_000, 0, 2, 5, 4), 1_249_998);
+    fn halves_of_the_nonlinear_term_go_to_the_even_neighbour() {
+        // At x = 1/4 the term is 3/4 TNL: 1.5 for 2, 4.5 for 6, 7.5 for 10.
+        for (tnl, term) in [(2, 2), (6, 4), (10, 8), (-2, -2), (-6, -4), (-10, -8)] {
+            let t = brightness_temperature(1_000_000, 0, tnl, 1, 4);
+            assert_eq!(t, 250_000 + term, "TNL {tnl}");
+        }
+        // At x = 5/4 it is -5/4 TNL: -2.5 for 2, -7.5 for 6.
+        for (tnl, term) in [(2, -2), (6, -8), (-2, 2), (-6, 8)] {
+            let t = brightness_temperature(1_000_000, 0, tnl, 5, 4);
+            assert_eq!(t, 1_250_000 + term, "TNL {tnl}");
+        }
+    }
+
+    #[test]
+    fn halves_of_x_go_to_the_even_neighbour() {
+        // 65,536 N / D is N / 2.
+        let d = 131_072;
+        for (n, x) in [(1, 0), (2, 1), (3, 2), (5, 2), (7, 4), (131_071, 65_536)] {
+            assert_eq!(rounded_share(n, d), x, "{n}");
+        }
+        // With TNL 8,192 the term is a little less than X / 2 near x = 0, and than (65,536 - X) / 2 above x = 1:
+        // X - 1 would show in the first, X + 1 in the second. The linear part is 7 N.
+        let at = |n: i128| brightness_temperature(7 * d, 0, 8_192, n, d);
+        assert_eq!(at(3), 21 + 1);
+        assert_eq!(at(d + 5), 7 * (d + 5) - 1);
+    }
+
+    #[test]
+    fn halves_of_the_linear_part_go_to_the_even_neighbour_before_tc_is_added() {
+        // N (Tw - Tc) / D is 250,000.5 and 250,001.5; Tc is odd, so that evenness of T would be another.
+        for (rise, linear) in [(1_000_002, 250_000), (1_000_006, 250_002)] {
+            for tc in [11_166, 11_167] {
+                assert_eq!(brightness_temperature(tc + rise, tc, 0, 1, 4), tc + linear);
+            }
+        }
     }
 
     #[test]
@@ -406,17 +437,17 @@ mod tests {
 
     #[test]
     fn e_takes_the_unrounded_nonlinearity() {
-        // TNL is 2.5, rounded to 3. At x = 1/2 E is 11,166 + 553,828 + 2.5, and T half a unit above it.
+        // TNL is 3.5, rounded to 4. At x = 1/2 E is 11,166 + 553,828 + 3.5, and T half a unit above it.
         let mut values = TableValues::bench();
-        values.channels[3].shelf_pairs[2].nonlinearity = 2;
-        values.channels[3].shelf_pairs[3].nonlinearity = 3;
+        values.channels[3].shelf_pairs[2].nonlinearity = 3;
+        values.channels[3].shelf_pairs[3].nonlinearity = 4;
         let mut record = RecordValues::bench();
         record.shelves[1] = 61_440;
         let fourth = Fourth::of(&values, &record);
         let e = fourth.exact(15_000);
-        assert_eq!(e.whole, 564_996);
+        assert_eq!(e.whole, 564_997);
         assert_eq!(2 * e.numerator, e.denominator);
-        assert_eq!(fourth.temperature(15_000), Ok(564_997));
+        assert_eq!(fourth.temperature(15_000), Ok(564_998));
     }
 
     #[test]

@@ -118,31 +118,31 @@ mod tests {
     }
 
     #[test]
-    fn halves_go_up_at_both_signs() {
+    fn halves_go_to_the_even_neighbour_at_both_signs() {
         // A half a unit from 0 to 3, back, and on to -2.
         let rows = [(-6, 0), (0, 3), (6, 0), (10, -2), (16, -5)];
         check_rows(
             rows,
             &[
                 // 0.5, 1, 1.5, 2, 2.5.
-                (-5, 1),
+                (-5, 0),
                 (-4, 1),
                 (-3, 2),
                 (-2, 2),
-                (-1, 3),
+                (-1, 2),
                 // 2.5, 2, 1.5, 1, 0.5.
-                (1, 3),
+                (1, 2),
                 (2, 2),
                 (3, 2),
                 (4, 1),
-                (5, 1),
+                (5, 0),
                 // -0.5, -1, -1.5; then -2.5, -3, -3.5, -4, -4.5.
                 (7, 0),
                 (8, -1),
-                (9, -1),
+                (9, -2),
                 (11, -2),
                 (12, -3),
-                (13, -3),
+                (13, -4),
                 (14, -4),
                 (15, -4),
             ],
@@ -166,13 +166,13 @@ mod tests {
                 (-500, 0),
                 (-499, 0),
                 (499, 0),
-                (500, 1),
+                (500, 0),
                 (501, 1),
                 (1_500, 1),
             ],
         );
         // 1 - 8,193 / 2 = -4,095.5.
-        check_rows(rows, &[(2_500, -4_095)]);
+        check_rows(rows, &[(2_500, -4_096)]);
     }
 
     #[test]
@@ -232,15 +232,18 @@ mod tests {
     }
 
     #[test]
-    fn one_fraction_and_an_end_value_with_a_rounded_increment_are_the_same() {
-        // r(a + k b, b) is r(a, b) + k: with halves up no shelf temperature tells the two apart.
-        let (before, behind) = ((-9, 11), (12, -30));
-        let rows = pairs([(-20, 0), before, behind, (13, 0), (14, 0)]);
+    fn one_fraction_is_rounded_and_not_an_increment() {
+        // From 11 at -9 to -30 at 13. TNL is a half where 41 × (shelf + 9) / 22 is one: at 2, midway, alone.
+        let (before, behind) = ((-9, 11), (13, -30));
+        let rows = pairs([(-20, 0), before, behind, (14, 0), (15, 0)]);
         for shelf in before.0..=behind.0 {
             let rise = (behind.1 - before.1) * (shelf - before.0);
             let increment = r(rise, behind.0 - before.0);
-            assert_eq!(nonlinearity(&rows, shelf), before.1 + increment);
+            let is_same = nonlinearity(&rows, shelf) == before.1 + increment;
+            assert_eq!(is_same, shelf != 2, "{shelf}");
         }
+        // -9.5: the even neighbour is -10; 11 + r(-20.5) is -9, and -30 + r(20.5) is -10.
+        check_rows([(-20, 0), before, behind, (14, 0), (15, 0)], &[(2, -10)]);
     }
 
     /// A table in which every channel has 100 × its number at -10 and 50 more at 10.

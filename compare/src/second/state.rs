@@ -25,7 +25,7 @@ pub const LAYOUT: [(u8, usize); 8] = [
 /// `SNDR` in ASCII.
 pub const MAGIC: u32 = 0x534e_4452;
 
-pub const VERSION: u32 = 5;
+pub const VERSION: u32 = 6;
 
 /// The answer where bytes are no state, or where a state has no room.
 pub const NO_STATE: u8 = 254;
@@ -366,7 +366,7 @@ mod tests {
         assert_eq!(state_size(), LENGTH);
         let state = fresh_bench();
         assert!(layout_is_right(&state, &LAYOUT));
-        assert_eq!(state[..11], *b"\x30\0\x08SNDR\0\0\0\x05");
+        assert_eq!(state[..11], *b"\x30\0\x08SNDR\0\0\0\x06");
         assert_eq!(state[11..14], [0x31, 0x05, 0x7c]);
         assert_eq!(state[14..1_418], TableValues::bench().encode());
         assert_eq!(state[1_418..1_421], [0x32, 0, 5]);
@@ -441,7 +441,7 @@ mod tests {
                 assert_eq!(answer(&put), expected, "c0 {c0} at {at}");
             }
         }
-        for version in [0, 1, 2, 3, 4, 6] {
+        for version in [0, 1, 2, 3, 4, 5, 7] {
             assert_eq!(answer(&|state| state[10] = version), 254, "{version}");
         }
         assert_eq!(answer(&|state| state.truncate(12_575)), 254);

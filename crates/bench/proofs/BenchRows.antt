@@ -16,7 +16,7 @@ use Rattle.nonlinearity.specs.Interpolation.{abovePair, unroundedTnl, tnlOf}
 use Rattle.window.specs.Means.{D}
 use Rattle.scene.specs.Temperature.{N, outside, temperature, biased}
 use Rattle.promise.specs.Moments.{tnlAt}
-use Rattle.bench.specs.Bench.{benchSettings, benchMoment, benchD, benchN, benchT, AllOutside, AllAt, Rows, BiasRows, InterpolationRows}
+use Rattle.bench.specs.Bench.{benchSettings, benchMoment, benchD, benchN, benchT, AllOutside, AllAt, Rows, RoundingRows, BiasRows, InterpolationRows}
 use Rattle.bench.proofs.BenchScan.{benchRow, benchMeans, bench-row, bench-means, bench-tnl, earth-count}
 
 -- N of a count, and T of an N
@@ -78,6 +78,21 @@ rows = record {
   H10-value = A.h10-scan-value;
   H11 = A.h11-side-bad;
   H12 = A.h12-both-bad;
+}
+
+pub rounding-rows : RoundingRows
+unfolding r floor
+rounding-rows = record {
+  half = refl;
+  three-halves = refl;
+  five-halves = refl;
+  half-below-zero = refl;
+  three-halves-below-zero = refl;
+  five-halves-below-zero = refl;
+  above-half = refl;
+  below-three-halves = refl;
+  above-half-below-zero = refl;
+  below-three-halves-below-zero = refl;
 }
 
 pub bias-rows : BiasRows

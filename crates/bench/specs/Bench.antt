@@ -6,6 +6,7 @@ use mathlib.Core.List.{List, [], _∷_, _++_}
 use mathlib.Core.Bool.{true, false}
 use lib.IntN.{ℤ, pos, negℤ}
 use lib.ListN.{replicate, getD}
+use Rattle.integers.specs.Rounding.{r}
 use Rattle.integers.specs.Fractions.{_/ᶠ_}
 use Rattle.lists.specs.Build.{cells}
 use Rattle.thermometer.specs.Rule.{F, answer}
@@ -176,31 +177,44 @@ pub record Rows : Type 0 where
   -- warm and cold all 10,000: both bad
   pub H12 : accepted (four 10000 10000 10000 10000) (four 10000 10000 10000 10000) ≡ record { warm = []; cold = [] }
 
--- what is delivered for T by c0 and e of both signs; three of the rows round a half
+-- Request W6: r of halves of both signs, with even and odd neighbours, and of numbers beside them
+pub record RoundingRows : Type 0 where
+  pub half : r (pos 1) (pos 2) ≡ pos 0
+  pub three-halves : r (pos 3) (pos 2) ≡ pos 2
+  pub five-halves : r (pos 5) (pos 2) ≡ pos 2
+  pub half-below-zero : r (negℤ (pos 1)) (pos 2) ≡ pos 0
+  pub three-halves-below-zero : r (negℤ (pos 3)) (pos 2) ≡ negℤ (pos 2)
+  pub five-halves-below-zero : r (negℤ (pos 5)) (pos 2) ≡ negℤ (pos 2)
+  pub above-half : r (pos 50001) (pos 100000) ≡ pos 1
+  pub below-three-halves : r (pos 149999) (pos 100000) ≡ pos 1
+  pub above-half-below-zero : r (negℤ (pos 49999)) (pos 100000) ≡ pos 0
+  pub below-three-halves-below-zero : r (negℤ (pos 149999)) (pos 100000) ≡ negℤ (pos 1)
+
+-- what is delivered for T by c0 and e of both signs; three of the rows round a half, and c0 comes after it
 pub record BiasRows : Type 0 where
   pub no-bias : biased (pos 0) (pos 0) (pos 565394) ≡ pos 565394
   pub least-e : biased (pos 4096) (negℤ (pos 32768)) (pos 565395) ≡ pos 286794
   pub greatest-e : biased (negℤ (pos 4096)) (pos 32767) (pos 565394) ≡ pos 843986
-  pub half-more : biased (negℤ (pos 1)) (pos 1) (pos 32768) ≡ pos 32768
+  pub half-more : biased (negℤ (pos 1)) (pos 1) (pos 32768) ≡ pos 32767
   pub half-less : biased (pos 1) (negℤ (pos 1)) (pos 32768) ≡ pos 32769
 
 -- Request W4: pairs at -4, -2, 0, 2 and 5
 abbrev pub rowsPair : ℕ → ShelfPair
 rowsPair j =
-    getD (record { shelf = negℤ (pos 4); tnl = negℤ (pos 4) } ∷ record { shelf = negℤ (pos 2); tnl = negℤ (pos 1) } ∷ record { shelf = pos 0; tnl = pos 0 } ∷ record { shelf = pos 2; tnl = pos 3 } ∷ record { shelf = pos 5; tnl = pos 8192 } ∷ [])
+    getD (record { shelf = negℤ (pos 4); tnl = negℤ (pos 2) } ∷ record { shelf = negℤ (pos 2); tnl = negℤ (pos 1) } ∷ record { shelf = pos 0; tnl = pos 0 } ∷ record { shelf = pos 2; tnl = pos 1 } ∷ record { shelf = pos 5; tnl = pos 8192 } ∷ [])
     j (record { shelf = pos 0; tnl = pos 0 })
 
 -- TNL by these pairs; three of the rows round a half, and two are at the ends of an i32
 pub record InterpolationRows : Type 0 where
-  pub least : tnlOf rowsPair (negℤ (pos 2147483648)) ≡ negℤ (pos 4)
-  pub below-first : tnlOf rowsPair (negℤ (pos 5)) ≡ negℤ (pos 4)
-  pub at-first : tnlOf rowsPair (negℤ (pos 4)) ≡ negℤ (pos 4)
+  pub least : tnlOf rowsPair (negℤ (pos 2147483648)) ≡ negℤ (pos 2)
+  pub below-first : tnlOf rowsPair (negℤ (pos 5)) ≡ negℤ (pos 2)
+  pub at-first : tnlOf rowsPair (negℤ (pos 4)) ≡ negℤ (pos 2)
   pub half-below : tnlOf rowsPair (negℤ (pos 3)) ≡ negℤ (pos 2)
   pub at-second : tnlOf rowsPair (negℤ (pos 2)) ≡ negℤ (pos 1)
   pub half-to-zero : tnlOf rowsPair (negℤ (pos 1)) ≡ pos 0
-  pub half-above : tnlOf rowsPair (pos 1) ≡ pos 2
-  pub third-of-the-way : tnlOf rowsPair (pos 3) ≡ pos 2733
-  pub third-of-the-way-unrounded : unroundedTnl rowsPair (pos 3) ≡ pos 8198 /ᶠ pos 3
+  pub half-above : tnlOf rowsPair (pos 1) ≡ pos 0
+  pub third-of-the-way : tnlOf rowsPair (pos 3) ≡ pos 2731
+  pub third-of-the-way-unrounded : unroundedTnl rowsPair (pos 3) ≡ pos 8194 /ᶠ pos 3
   pub two-thirds-of-the-way : tnlOf rowsPair (pos 4) ≡ pos 5462
   pub at-last : tnlOf rowsPair (pos 5) ≡ pos 8192
   pub above-last : tnlOf rowsPair (pos 6) ≡ pos 8192

@@ -12,9 +12,9 @@ use Rattle.bias.specs.Bias.{biasLayout, pairSize}
 abbrev pub raised : ℕ → ℕ
 raised n = (n + 32768) % 65536
 
--- the factor 65,536 + e, and the offset 65,536 (c0 + 32,768) + 32,768, of the pair that begins at `at`
+-- the factor 65,536 + e, and the offset 65,536 (c0 + 32,768) + 32,767, of the pair that begins at `at`
 abbrev pub pairAt : List ℕ → ℕ → List ℕ
-pairAt bias at = (raised (u16At bias (at + 2)) + 32768) ∷ (65536 * raised (u16At bias at) + 32768) ∷ []
+pairAt bias at = (raised (u16At bias (at + 2)) + 32768) ∷ (65536 * raised (u16At bias at) + 32767) ∷ []
 
 abbrev pub pairCount : ℕ
 pairCount = positions * channels

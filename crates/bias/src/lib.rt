@@ -134,7 +134,7 @@ fn put_pair(out: &mut [u32], at: usize, bytes: &[u8], from: usize)
 {
     let c0 = raised_of(fields::u16_at(bytes, from));
     let e = raised_of(fields::u16_at(bytes, from + 2));
-    put_two(out, at, e + 32_768, 65_536 * c0 + 32_768);
+    put_two(out, at, e + 32_768, 65_536 * c0 + 32_767);
 }
 
 // All pairs, each read once.

@@ -118,7 +118,7 @@ fn alike_channels(constants: Constants) -> [Channel; CHANNELS]
 }
 
 // A whole product, of channels with flag 0 that all have these constants, under a scan bias: the writer alone, to be timed. `pairs` has
-// two numbers for every position, channel by channel: 65,536 + e and 65,536 (c0 + 32,768) + 32,768.
+// two numbers for every position, channel by channel: 65,536 + e and 65,536 (c0 + 32,768) + 32,767.
 #[no_mangle]
 pub extern "C" fn compared_product(
     buffer: &mut [u8],

@@ -7,6 +7,7 @@ pub mod Certificate
 pub mod Bounds
 pub mod Machine
 pub mod Floor
+pub mod Parity
 pub mod Nearest
 pub mod Fractions
 pub mod EqualFractions

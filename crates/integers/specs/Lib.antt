@@ -1,3 +1,4 @@
 pub mod Rounding
 pub mod Bounds
+pub mod NearestEven
 pub mod Fractions

@@ -1,16 +1,16 @@
 -- Under an accepted table T of a scene that is not outside is from 11,166 to 1,832,984: the linear part makes up for whatever the bend takes
 -- off. So under an accepted bias file what is delivered is from 1 to 16,777,215, and its f32 is exact.
-use mathlib.Core.Path.{_≡_, sym, _∙_}
+use mathlib.Core.Path.{_≡_, _∙_}
 use mathlib.Core.Logic.{⊎-elim}
 use mathlib.Core.List.{[], _∷_}
 use lib.IntN.{ℤ, pos, _+ℤ_, _-ℤ_, _*ℤ_, +ℤ-idl}
 use lib.Signed.{_≤ℤ_, _<ℤ_, ltZ-yes}
 use Rattle.integers.specs.Rounding.{r}
 use Rattle.integers.specs.Bounds.{Bounded}
-use Rattle.integers.proofs.Ring.{_:+_, _:-_, _:*_, opp, #, v0, v1, v2, v3, v4}
-use Rattle.integers.proofs.Certificate.{_:≤_, _:<_, hyp, nat, _⊕_, _⊗_, le-by, lt-by}
+use Rattle.integers.proofs.Ring.{_:+_, _:-_, _:*_, opp, ring, #, v0, v1, v2, v3, v4}
+use Rattle.integers.proofs.Certificate.{_:≤_, _:<_, hyp, nat, _⊕_, _⊗_, le-by}
 use Rattle.integers.proofs.Bounds.{bounded-product, bounded-not-negative, bounded-by-itself, number-bounded}
-use Rattle.integers.proofs.Nearest.{r-within-half, r-unique, within-half-at-least, within-half-at-most}
+use Rattle.integers.proofs.Nearest.{r-within-half, r-of-multiple, within-half-at-least, within-half-at-most}
 use Rattle.integers.proofs.Order.{product-not-negative, at-most-or-above}
 use Rattle.scene.specs.Temperature.{X, temperature, biased}
 use Rattle.scene.specs.Scene.{unbiased}
@@ -111,4 +111,4 @@ pub biased-by-zeros : (t : ℤ) → biased (pos 0) (pos 0) t ≡ unbiased t
 unfolding biased
 biased-by-zeros t =
     +ℤ-idl (r ((pos 65536 +ℤ pos 0) *ℤ t) (pos 65536))
-    ∙ sym (r-unique ((pos 65536 +ℤ pos 0) *ℤ t) t (ltZ-yes tt) (le-by (t ∷ []) ([]) (# 2 :* # 65536 :* v0) (# 2 :* ((# 65536 :+ # 0) :* v0) :+ # 65536) (hyp 0) tt) (lt-by (t ∷ []) ([]) (# 2 :* ((# 65536 :+ # 0) :* v0) :+ # 65536) (# 2 :* # 65536 :* v0 :+ # 2 :* # 65536) (hyp 0) tt))
+    ∙ r-of-multiple ((pos 65536 +ℤ pos 0) *ℤ t) t (ltZ-yes tt) (ring (t ∷ []) ((# 65536 :+ # 0) :* v0) (v0 :* # 65536) tt)

@@ -26,8 +26,8 @@ pub record Bracket (n d : ℤ) (w : ℕ) : Type 0 where
 abbrev pub unsureOf : (x linear edge : ℕ) → Bool
 unsureOf x linear edge = ltb 65501 (x % 65536) || ltb edge (linear % 4294967296)
 
--- ---- the scan bias of a position as two numbers: the factor 65,536 + e and the offset 65,536 (c0 + 32,768) + 32,768, in which the half of
--- the rounding is
+-- ---- the scan bias of a position as two numbers: the factor 65,536 + e and the offset 65,536 (c0 + 32,768) + 32,767, which has
+-- one less than the half of the rounding
 abbrev pub eOf : ℕ → ℤ
 eOf factor = pos factor -ℤ pos 65536
 
@@ -37,7 +37,7 @@ c0Of offset = pos (offset / 65536) -ℤ pos 32768
 pub record BiasNumbers (factor offset : ℕ) : Type 0 where
   pub e : Bounded (eOf factor) (pos 32768)
   pub c0 : Bounded (c0Of offset) (pos 4096)
-  pub half : offset % 65536 ≡ 32768
+  pub half : offset % 65536 ≡ 32767
 
 -- r(X(65,536 - X) × 4 TNL, 2^32), where the curve is 4 TNL
 abbrev pub bendOf : (X curve : ℤ) → ℤ

@@ -149,12 +149,14 @@ fn units(k: Constants, scale: Scale, n: i64) -> i64
     )
 }
 
-// What is delivered for T: c0 + r((65,536 + e) × T, 65,536). The factor is 65,536 + e, and the offset has c0 and the half of the rounding.
+// What is delivered for T: c0 + r((65,536 + e) × T, 65,536), rounded as `round_natural` does it. The factor is 65,536 + e, and the offset has c0
+// and one less than the half of the rounding.
 fn biased_units(t: i64, factor: u32, offset: u32) -> i32
     requires { ⌜ (pos 11166 ≤ℤ t) × (t ≤ℤ pos 1832984) × BiasNumbers factor offset ⌝ }
     ensures { λ b. ⌜ b ≡ biased (c0Of offset) (eOf factor) t ⌝ }
 {
-    ((factor as u64 * t as u64 + offset as u64) / 65_536) as i32 - 32_768
+    let product = factor as u64 * t as u64;
+    ((product + offset as u64 + product / 65_536 % 2) / 65_536) as i32 - 32_768
 }
 
 // t / 4096: a whole number below 2^24 is cast without loss, and the product with a power of two is exact. An i32 becomes an f32 by one

@@ -29,7 +29,7 @@ use window::Window;
 // `SNDR` in ASCII, and the version of the layout and of the rules.
 const MAGIC: u32 = 0x534E4452;
 
-const VERSION: u32 = 5;
+const VERSION: u32 = 6;
 
 // The layout, and where the value of each field starts.
 const TAGS: [u8; 8] = [0x30, 0x31, 0x32, 0x33, 0x34, 0x35, 0x36, 0x37];

@@ -47,7 +47,7 @@ returns c =
     let a = first .before .before .before .before .args in
     let c0 = first .raised-of .ensures ∙ ap raised (first .before .u16-at .ensures) in
     let e = second .raised-of2 .ensures ∙ ap raised (second .before .u16-at2 .ensures) in
-    two .put-two .ensures ∙ ap₂ (λ (x y : ℕ). put (now (a .out)) (a .at) ((x + 32768) ∷ (65536 * y + 32768) ∷ [])) e c0
+    two .put-two .ensures ∙ ap₂ (λ (x y : ℕ). put (now (a .out)) (a .at) ((x + 32768) ∷ (65536 * y + 32767) ∷ [])) e c0
 
 pub put-pair-spec : {M : Type 1} → statement M
 put-pair-spec =

@@ -1,47 +1,66 @@
--- `integers::round` meets its contract. With less than half of b left, the nearest whole number is the floor; else it is one more,
--- which fits, since b is then at least 2. Assumes nothing.
-use mathlib.Core.Path.{_≡_}
+-- `integers::round` meets its contract: its tests are those of the definition. One more than the floor is taken only where at least half of b
+-- is left, so that b is at least 2 and it fits. Assumes nothing.
+use mathlib.Core.Path.{_≡_, sym, ap, _∙_}
+use mathlib.Core.Bool.{cond}
 use mathlib.Core.List.{[], _∷_}
 use lib.IntN.{ℤ, pos, _+ℤ_, _-ℤ_, _*ℤ_}
 use lib.Signed.{_≤ℤ_, _<ℤ_}
 use mir.Syntax.{w64}
-use mir.Val.{SFits}
+use mir.Val.{SFits, toZ, ofZ}
 use borrow.Author.Needs.{needs}
-use Rattle.integers.specs.Rounding.{floor}
+use Rattle.integers.specs.Rounding.{floor, isEven, evenOf, r}
 use Rattle.integers.proofs.Ring.{_:+_, _:-_, _:*_, opp, #, v0, v1, v2}
-use Rattle.integers.proofs.Order.{ltZ-true, ltZ-false}
+use Rattle.integers.proofs.Order.{at-most-antisym, ltZ-true, ltZ-false}
 use Rattle.integers.proofs.Certificate.{_:≤_, _:<_, hyp, nat, _⊕_, _⊗_, le-by}
 use Rattle.integers.proofs.Machine.{reads-back, result-reads-back, range-fits, fits-low, fits-high, floor-fits}
 use Rattle.integers.proofs.Floor.{floor-low, rest-low, rest-high}
-use Rattle.integers.proofs.Nearest.{r-is-floor, r-above-floor}
+use Rattle.integers.proofs.Nearest.{r-is-floor, r-above-floor, r-midway}
 use Rattle.integers.proofs.round.Statement.{statement}
 use Rattle.integers.proofs.round.Tie as tie
 
-abbrev Rest : ℤ → ℤ → ℤ
-Rest a b = a -ℤ b *ℤ floor a b
+abbrev Past : ℤ → ℤ → ℤ
+Past a b = a -ℤ b *ℤ floor a b
 
-other-part-fits : (a : ℤ) {b : ℤ} → pos 0 <ℤ b → SFits w64 b → SFits w64 (b -ℤ Rest a b)
-other-part-fits a {b} p f =
+short-fits : (a : ℤ) {b : ℤ} → pos 0 <ℤ b → SFits w64 b → SFits w64 (b -ℤ Past a b)
+short-fits a {b} p f =
     range-fits
-    (le-by (b ∷ (Rest a b) ∷ []) ((v1 :< v0) ∷ []) (opp (# 9223372036854775808)) (v0 :- v1) (hyp 0 ⊕ hyp 1) tt (rest-high a p))
-    (le-by (b ∷ (Rest a b) ∷ []) ((# 0 :≤ v1) ∷ (v0 :≤ # 9223372036854775807) ∷ []) (v0 :- v1) (# 9223372036854775807) (hyp 0 ⊕ hyp 1 ⊕ hyp 2) tt (rest-low a p) (fits-high f))
+    (le-by (b ∷ (Past a b) ∷ []) ((v1 :< v0) ∷ []) (opp (# 9223372036854775808)) (v0 :- v1) (hyp 0 ⊕ hyp 1) tt (rest-high a p))
+    (le-by (b ∷ (Past a b) ∷ []) ((# 0 :≤ v1) ∷ (v0 :≤ # 9223372036854775807) ∷ []) (v0 :- v1) (# 9223372036854775807) (hyp 0 ⊕ hyp 1 ⊕ hyp 2) tt (rest-low a p) (fits-high f))
 
 -- at least half of b is left, so b is at least 2
-one-more-fits : (a : ℤ) {b : ℤ} → pos 0 <ℤ b → SFits w64 a → (b -ℤ Rest a b) ≤ℤ Rest a b → SFits w64 (floor a b +ℤ pos 1)
+one-more-fits : (a : ℤ) {b : ℤ} → pos 0 <ℤ b → SFits w64 a → (b -ℤ Past a b) ≤ℤ Past a b → SFits w64 (floor a b +ℤ pos 1)
 one-more-fits a {b} p f h =
     range-fits
     (le-by ((floor a b) ∷ []) ((opp (# 9223372036854775808) :≤ v0) ∷ []) (opp (# 9223372036854775808)) (v0 :+ # 1) (hyp 0 ⊕ hyp 1) tt (fits-low (floor-fits b f)))
     (le-by (a ∷ b ∷ (floor a b) ∷ []) ((# 2 :≤ v1) ∷ (v1 :* v2 :≤ v0) ∷ (v0 :≤ # 9223372036854775807) ∷ []) (v2 :+ # 1) (# 9223372036854775807) (nat 2 ⊗ hyp 0 ⊕ nat 9223372036854775807 ⊗ hyp 1 ⊕ hyp 2 ⊕ hyp 3 ⊕ hyp 0 ⊗ hyp 1) tt two (floor-low a p) (fits-high f))
   where
     two : pos 2 ≤ℤ b
-    two = (le-by (b ∷ (Rest a b) ∷ []) ((# 0 :< v0) ∷ (v1 :< v0) ∷ (v0 :- v1 :≤ v1) ∷ []) (# 2) v0 (hyp 0 ⊕ nat 2 ⊗ hyp 2 ⊕ hyp 3) tt p (rest-high a p) h)
+    two = (le-by (b ∷ (Past a b) ∷ []) ((# 0 :< v0) ∷ (v1 :< v0) ∷ (v0 :- v1 :≤ v1) ∷ []) (# 2) v0 (hyp 0 ⊕ nat 2 ⊗ hyp 2 ⊕ hyp 3) tt p (rest-high a p) h)
 
 module _ (c : tie.After-remainder) where
-  quotient-is : c .before .floor-div .result ≡ floor (c .before .before .args .a) (c .before .before .args .b)
-  quotient-is = let s = c .before .before in rw (reads-back (s .fits .a), reads-back (s .fits .b)) at (c .before .floor-div .ensures)
+  abbrev start : tie.Start
+  start = c .before .before
 
-  rest-is : c .remainder .result ≡ Rest (c .before .before .args .a) (c .before .before .args .b)
-  rest-is = let s = c .before .before in rw (reads-back (s .fits .a), reads-back (s .fits .b)) at (c .remainder .ensures)
+  abbrev a : ℤ
+  a = start .args .a
+
+  abbrev b : ℤ
+  b = start .args .b
+
+  low-is : toZ w64 (ofZ w64 (c .before .floor-div .result)) ≡ floor a b
+  low-is = result-reads-back (c .before .floor-div .result) (c .before .floor-div .ok) ∙ (rw (reads-back (start .fits .a), reads-back (start .fits .b)) at (c .before .floor-div .ensures))
+
+  past-is : toZ w64 (ofZ w64 (c .remainder .result)) ≡ Past a b
+  past-is = result-reads-back (c .remainder .result) (c .remainder .ok) ∙ (rw (reads-back (start .fits .a), reads-back (start .fits .b)) at (c .remainder .ensures))
+
+  short-is : toZ w64 (ofZ w64 (toZ w64 (ofZ w64 b) -ℤ toZ w64 (ofZ w64 (c .remainder .result)))) ≡ b -ℤ Past a b
+  short-is = rw (reads-back (start .fits .b), past-is, reads-back (short-fits a (start .pre) (start .fits .b)))
+
+  next-fits : (b -ℤ Past a b) ≤ℤ Past a b → SFits w64 (toZ w64 (ofZ w64 (c .before .floor-div .result)) +ℤ pos 1)
+  next-fits h = rw low-is (one-more-fits a (start .pre) (start .fits .a) h)
+
+  next-is : (b -ℤ Past a b) ≤ℤ Past a b → toZ w64 (ofZ w64 (toZ w64 (ofZ w64 (c .before .floor-div .result)) +ℤ pos 1)) ≡ floor a b +ℤ pos 1
+  next-is h = rw (low-is, reads-back (one-more-fits a (start .pre) (start .fits .a) h))
 
 floor-div-requires : tie.Need-floor-div-requires
 floor-div-requires c κs = search needs
@@ -49,42 +68,65 @@ floor-div-requires c κs = search needs
 remainder-requires : tie.Need-remainder-requires
 remainder-requires c κs = search needs
 
-sub-if1 : tie.Need-sub-if1
-sub-if1 c =
-    let s = c .before .before in
-    rw (reads-back (s .fits .b), result-reads-back (c .remainder .result) (c .remainder .ok), rest-is c) (other-part-fits (s .args .a) (s .pre) (s .fits .b))
+sub-short : tie.Need-sub-short
+sub-short c = rw (reads-back (start c .fits .b), past-is c) (short-fits (a c) (start c .pre) (start c .fits .b))
 
-less-than-half : (c : tie.Then1) → Rest (c .before .before .before .args .a) (c .before .before .before .args .b) <ℤ (c .before .before .before .args .b -ℤ Rest (c .before .before .before .args .a) (c .before .before .before .args .b))
-less-than-half c =
-    let s = c .before .before .before in
-    let m = c .before .remainder in
-    ltZ-true (rw (reads-back (s .fits .b), result-reads-back (m .result) (m .ok), rest-is (c .before), reads-back (other-part-fits (s .args .a) (s .pre) (s .fits .b))) at (c .if1 .taken))
-
-half-or-more : (c : tie.Else1) → (c .before .before .before .args .b -ℤ Rest (c .before .before .before .args .a) (c .before .before .before .args .b)) ≤ℤ Rest (c .before .before .before .args .a) (c .before .before .before .args .b)
-half-or-more c =
-    let s = c .before .before .before in
-    let m = c .before .remainder in
-    ltZ-false (rw (reads-back (s .fits .b), result-reads-back (m .result) (m .ok), rest-is (c .before), reads-back (other-part-fits (s .args .a) (s .pre) (s .fits .b))) at (c .if1 .left))
-
+-- ---- less than half of b is left
 returns : tie.Need-returns
 returns c =
-    let s = c .before .before .before in
-    let f = c .before .before .floor-div in
-    rw (result-reads-back (f .result) (f .ok), quotient-is (c .before)) (r-is-floor (s .args .a) (s .pre) (less-than-half c))
+    let m = c .before in
+    low-is m ∙ r-is-floor (a m) (b m) (ltZ-true (rw (short-is m, past-is m) at (c .if1 .taken)))
+
+-- ---- more than half
+half-or-more : (c : tie.Else1) → (b (c .before) -ℤ Past (a (c .before)) (b (c .before))) ≤ℤ Past (a (c .before)) (b (c .before))
+half-or-more c = ltZ-false (rw (short-is (c .before), past-is (c .before)) at (c .if1 .left))
 
 add-result : tie.Need-add-result
-add-result c =
-    let s = c .before .before .before in
-    let f = c .before .before .floor-div in
-    rw (result-reads-back (f .result) (f .ok), quotient-is (c .before)) (one-more-fits (s .args .a) (s .pre) (s .fits .a) (half-or-more c))
+add-result c = next-fits (c .before .before) (half-or-more (c .before))
 
 returns-2 : tie.Need-returns-2
 returns-2 c =
-    let s = c .before .before .before in
-    let f = c .before .before .floor-div in
-    rw (result-reads-back (f .result) (f .ok), quotient-is (c .before), reads-back (one-more-fits (s .args .a) (s .pre) (s .fits .a) (half-or-more c)))
-    (r-above-floor (s .args .a) (s .pre) (half-or-more c))
+    let m = c .before .before in
+    next-is m (half-or-more (c .before)) ∙ r-above-floor (a m) (b m) (ltZ-true (rw (short-is m, past-is m) at (c .if2 .taken)))
+
+-- ---- just half
+module _ (c : tie.After-is-even) where
+  abbrev m : tie.After-remainder
+  m = c .before .before .before
+
+  midway : evenOf (floor (a m) (b m)) ≡ r (a m) (b m)
+  midway = r-midway (a m) (b m) (at-most-antisym (ltZ-false (rw (short-is m, past-is m) at (c .before .if2 .left))) (half-or-more (c .before .before)))
+
+  test-is : c .is-even .result ≡ isEven (floor (a m) (b m))
+  test-is = rw (low-is m) at (c .is-even .ensures)
+
+is-even-requires : tie.Need-is-even-requires
+is-even-requires c κs = search needs
+
+returns-3 : tie.Need-returns-3
+returns-3 c =
+    let e = c .before in
+    low-is (m e) ∙ sym (ap (λ t. cond t (floor (a (m e)) (b (m e))) (floor (a (m e)) (b (m e)) +ℤ pos 1)) (sym (test-is e) ∙ c .if3 .taken)) ∙ midway e
+
+add-result-2 : tie.Need-add-result-2
+add-result-2 c = next-fits (m (c .before)) (half-or-more (c .before .before .before))
+
+returns-4 : tie.Need-returns-4
+returns-4 c =
+    let e = c .before in
+    next-is (m e) (half-or-more (e .before .before)) ∙ sym (ap (λ t. cond t (floor (a (m e)) (b (m e))) (floor (a (m e)) (b (m e)) +ℤ pos 1)) (sym (test-is e) ∙ c .if3 .left)) ∙ midway e
 
 pub round-spec : {M : Type 1} → statement M
 round-spec =
-    tie.close (tie.spec floor-div-requires remainder-requires sub-if1 returns add-result returns-2)
+    tie.close
+    (tie.spec
+    floor-div-requires
+    remainder-requires
+    sub-short
+    returns
+    add-result
+    returns-2
+    is-even-requires
+    returns-3
+    add-result-2
+    returns-4)

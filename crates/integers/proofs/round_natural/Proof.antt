@@ -1,12 +1,11 @@
--- `integers::round_natural` meets its contract: by an even number r is the floor of the sum that is divided, and the machine's quotient
--- of natural numbers is the floor. Assumes nothing.
+-- `integers::round_natural` meets its contract: no sum is above 2^63, and what is divided is what `r-of-naturals` divides. Assumes nothing.
 use borrow.Author.Needs.{needs}
-use Rattle.integers.specs.Rounding.{floor}
-use lib.IntN.{pos}
-use Rattle.integers.proofs.Naturals.{natural-below}
-use Rattle.integers.proofs.Nearest.{r-by-even}
+use Rattle.integers.proofs.Nearest.{r-of-naturals}
 use Rattle.integers.proofs.round_natural.Statement.{statement}
 use Rattle.integers.proofs.round_natural.Tie as tie
+
+sub-result : tie.Need-sub-result
+sub-result c = search needs
 
 add-result : tie.Need-add-result
 add-result c = search needs
@@ -17,9 +16,27 @@ mul-result c = search needs
 div-result : tie.Need-div-result
 div-result c = search needs
 
+add-result-2 : tie.Need-add-result-2
+add-result-2 c = search needs
+
+mul-result-2 : tie.Need-mul-result-2
+mul-result-2 c = search needs
+
+div-result-2 : tie.Need-div-result-2
+div-result-2 c = search needs
+
 returns : tie.Need-returns
-unfolding floor
-returns c = r-by-even (pos (c .args .a)) (natural-below (c .pre .1))
+returns c = r-of-naturals (c .args .a) (c .args .half) (c .pre .1)
 
 pub round-natural-spec : {M : Type 1} → statement M
-round-natural-spec = tie.close (tie.spec add-result mul-result div-result returns)
+round-natural-spec =
+    tie.close
+    (tie.spec
+    sub-result
+    add-result
+    mul-result
+    div-result
+    add-result-2
+    mul-result-2
+    div-result-2
+    returns)

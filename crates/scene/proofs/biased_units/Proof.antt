@@ -1,22 +1,22 @@
--- `scene::biased_units` meets its contract: T and the two numbers are natural, their product is below 2^38, and half of 65,536 in the offset
--- makes the quotient the rounding; with c0 it is from 1 to 16,777,215. Assumes nothing.
+-- `scene::biased_units` meets its contract: T and the two numbers are natural, their product is below 2^38, and with the offset and
+-- the last bit of its quotient it is divided as `r-of-naturals` does it; with c0 it is from 1 to 16,777,215. Assumes nothing.
 use Prim.Native.Nat.{ℕ, _+_, _*_, _/_, _%_, _≤_}
 use native.Mathlib.Omega.{arith}
 use mathlib.Core.Path.{_≡_, sym, ap, _∙_}
 use mathlib.Core.List.{[], _∷_}
 use lib.Dec.{lit<}
 use lib.IntN.{ℤ, pos, natAbs, _+ℤ_, _-ℤ_, _*ℤ_}
-use lib.Signed.{_≤ℤ_, ltZ-yes, yes-nonNeg, pos-natAbs}
+use lib.Signed.{_≤ℤ_, yes-nonNeg, pos-natAbs}
 use mir.Syntax.{w32}
 use mir.Val.{SFits, toZ}
 use mir.ValLaws.{toZ-pos}
-use Rattle.integers.specs.Rounding.{floor, r}
+use Rattle.integers.specs.Rounding.{r}
 use Rattle.integers.proofs.Ring.{_:+_, _:-_, ring, #, v0, v1}
 use Rattle.integers.proofs.Naturals.{natural-at-most, at-most-natural}
 use Rattle.integers.proofs.Order.{at-most-trans}
 use Rattle.integers.proofs.Bounds.{bounded-sum, bounded-not-negative}
 use Rattle.integers.proofs.Machine.{bounded-fits, reads-back, unsigned-fits}
-use Rattle.integers.proofs.Nearest.{r-by-even}
+use Rattle.integers.proofs.Nearest.{r-of-naturals}
 use Rattle.scene.specs.Temperature.{biased}
 use Rattle.scene.specs.Steps.{c0Of, eOf}
 use Rattle.scene.proofs.BiasRange.{product-bounded, rounded-low, rounded-high}
@@ -24,13 +24,11 @@ use Rattle.scene.proofs.biased_units.Statement.{statement}
 use Rattle.scene.proofs.biased_units.Tie as tie
 
 -- ---- on natural numbers
--- with half of the divisor the quotient is the rounding
-quotient-is-rounding : (a : ℕ) → pos ((a + 32768) / 65536) ≡ r (pos a) (pos 65536)
-unfolding floor
-quotient-is-rounding a = r-by-even (pos a) {h = pos 32768} (ltZ-yes tt)
+quotient-is-rounding : (a : ℕ) → pos ((a + 32767 + a / 65536 % 2) / 65536) ≡ r (pos a) (pos 65536)
+quotient-is-rounding a = r-of-naturals a 32768 (omega arith)
 
-module _ (p offset : ℕ) (half : offset % 65536 ≡ 32768) where
-  quotient-parts : (p + offset) / 65536 ≡ offset / 65536 + (p + 32768) / 65536
+module _ (p offset : ℕ) (half : offset % 65536 ≡ 32767) where
+  quotient-parts : (p + offset + p / 65536 % 2) / 65536 ≡ offset / 65536 + (p + 32767 + p / 65536 % 2) / 65536
   quotient-parts = omega arith
 
 -- ---- what the contract gives
@@ -42,7 +40,7 @@ module _ (s : tie.Start) where
   product = s .args .factor * natAbs (s .args .t)
 
   abbrev quotient : ℕ
-  quotient = (s .args .factor * natAbs (s .args .t) + s .args .offset) / 65536
+  quotient = (product + s .args .offset + product / 65536 % 2) / 65536
 
   t-not-negative : pos 0 ≤ℤ s .args .t
   t-not-negative = at-most-trans (natural-at-most (omega arith)) (s .pre .0)
@@ -81,17 +79,20 @@ module _ (s : tie.Start) where
   quotient-reads-back : toZ w32 quotient ≡ pos quotient
   quotient-reads-back = toZ-pos w32 quotient (omega (arith, quotient-small))
 
-cast-result : tie.Need-cast-result
-cast-result c = rw (reads-back (c .fits .t)) (unsigned-fits (t-not-negative c) (c .fits .t))
+cast-product : tie.Need-cast-product
+cast-product c = rw (reads-back (c .fits .t)) (unsigned-fits (t-not-negative c) (c .fits .t))
 
-mul-result : tie.Need-mul-result
-mul-result c = rw (reads-back (c .fits .t)) (record { fits = omega (arith, product-small c) })
+mul-product : tie.Need-mul-product
+mul-product c = rw (reads-back (c .fits .t)) (record { fits = omega (arith, product-small c) })
 
 add-result : tie.Need-add-result
 add-result c = rw (reads-back (c .fits .t)) (record { fits = omega (arith, product-small c) })
 
-cast-result-2 : tie.Need-cast-result-2
-cast-result-2 c = rw (reads-back (c .fits .t)) (record { sfits = omega (arith, quotient-small c) })
+add-result-2 : tie.Need-add-result-2
+add-result-2 c = rw (reads-back (c .fits .t)) (record { fits = omega (arith, product-small c) })
+
+cast-result : tie.Need-cast-result
+cast-result c = rw (reads-back (c .fits .t)) (record { sfits = omega (arith, quotient-small c) })
 
 sub-result : tie.Need-sub-result
 sub-result c = rw (reads-back (c .fits .t), quotient-reads-back c) (delivered-fits c)
@@ -102,4 +103,11 @@ returns c = rw (reads-back (c .fits .t), quotient-reads-back c, reads-back (deli
 pub biased-units-spec : {M : Type 1} → statement M
 biased-units-spec =
     tie.close
-    (tie.spec cast-result mul-result add-result cast-result-2 sub-result returns)
+    (tie.spec
+    cast-product
+    mul-product
+    add-result
+    add-result-2
+    cast-result
+    sub-result
+    returns)

@@ -1,5 +1,5 @@
 -- `scene::raised_bend` meets its contract. What is rounded is raised by 2^20 times the divisor and is then a natural number; so its rounding
--- is 2^20 more than that of the definition. Assumes nothing.
+-- is 2^20 more than that of the definition, 2^20 being even. Assumes nothing.
 use mathlib.Core.Path.{_≡_, _∙_}
 use native.Mathlib.Nat.{le-trans}
 use lib.Dec.{lit<, lit≤}
@@ -70,7 +70,7 @@ module _ (c : tie.After-round-natural) where
       let s = c .before in
       let h = s .pre in
       (rw (reads-back (s .fits .x), reads-back (s .fits .curve), reads-back (rest-of-x-fits h), reads-back (x-product-fits h), reads-back (x-curve-fits h), reads-back (raised-fits h), pos-natAbs (product +ℤ pos 4503599627370496) (yes-nonNeg (raised-not-negative (h .0) (h .1)))) at (c .round-natural .ensures))
-      ∙ r-shifted product (pos 1048576) (ltZ-yes tt)
+      ∙ r-shifted product (pos 524288) (ltZ-yes tt)
 
   result-fits : SFits w64 (pos (c .round-natural .result))
   result-fits = rw raised-bend-is (raised-bend-fits (c .before .pre))

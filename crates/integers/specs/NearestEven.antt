@@ -1,0 +1,16 @@
+-- Request W6 in its own words, multiplied out: the nearest whole number, and of two equally near the even one. That r(a, b) is this number,
+-- and the only one, are the laws `r-nearest-even` and `r-unique`.
+use mathlib.Core.Path.{_≡_}
+use mathlib.Core.Bool.{true}
+use mathlib.Core.Logic.{_⊎_}
+use lib.IntN.{ℤ, pos, negℤ, _-ℤ_, _*ℤ_}
+use Rattle.integers.specs.Rounding.{isEven}
+use Rattle.integers.specs.Bounds.{WithinHalf}
+
+-- q is a half from a / b exactly, above it or below it
+abbrev pub AtHalf : (a b q : ℤ) → Type 0
+AtHalf a b q = (pos 2 *ℤ (b *ℤ q -ℤ a) ≡ b) ⊎ (pos 2 *ℤ (b *ℤ q -ℤ a) ≡ negℤ b)
+
+pub record NearestEven (a b q : ℤ) : Type 0 where
+  pub near : WithinHalf a b q
+  pub even : AtHalf a b q → isEven q ≡ true
