@@ -92,7 +92,7 @@ rounding-rows = record {
   above-half = refl;
   below-three-halves = refl;
   above-half-below-zero = refl;
-  below-three-halves-below-zero = refl;
+  above-three-halves-below-zero = refl;
 }
 
 pub bias-rows : BiasRows

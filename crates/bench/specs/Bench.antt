@@ -188,7 +188,7 @@ pub record RoundingRows : Type 0 where
   pub above-half : r (pos 50001) (pos 100000) ≡ pos 1
   pub below-three-halves : r (pos 149999) (pos 100000) ≡ pos 1
   pub above-half-below-zero : r (negℤ (pos 49999)) (pos 100000) ≡ pos 0
-  pub below-three-halves-below-zero : r (negℤ (pos 149999)) (pos 100000) ≡ negℤ (pos 1)
+  pub above-three-halves-below-zero : r (negℤ (pos 149999)) (pos 100000) ≡ negℤ (pos 1)
 
 -- what is delivered for T by c0 and e of both signs; three of the rows round a half, and c0 comes after it
 pub record BiasRows : Type 0 where

@@ -2,7 +2,7 @@
 -- decides it. And what is within a half of a / b stays between whole numbers that a / b is between, and is the whole number that a / b is
 -- nearer to than a half.
 use mathlib.Core.Path.{_≡_, refl, sym, _∙_, ap, subst}
-use mathlib.Core.Logic.{_⊎_, inl, inr, ⊎-elim}
+use mathlib.Core.Logic.{inl, inr, ⊎-elim}
 use mathlib.Core.Bool.{Bool, true, false, cond}
 use mathlib.Core.List.{[], _∷_}
 use Prim.Native.Nat.{ℕ, _+_, _-_, _*_, _/_, _%_, _≤_, _<_}
@@ -39,13 +39,13 @@ module _ (a b : ℤ) where
   r-midway e = sym (simp (at-most-fails (at-most-equal (sym e)), at-most-fails (at-most-equal e)))
 
 -- ---- what makes a number the nearest, and of two the even one
-pub nearer-than-half : {a b q : ℤ} → negℤ b <ℤ (pos 2 *ℤ (b *ℤ q -ℤ a)) → (pos 2 *ℤ (b *ℤ q -ℤ a)) <ℤ b → NearestEven a b q
+nearer-than-half : {a b q : ℤ} → negℤ b <ℤ (pos 2 *ℤ (b *ℤ q -ℤ a)) → (pos 2 *ℤ (b *ℤ q -ℤ a)) <ℤ b → NearestEven a b q
 nearer-than-half low high = record {
   near = record { twice = record { low = below-at-most low; high = below-at-most high } };
   even = ⊎-elim (λ e. absurd (clashℤ high (at-most-equal (sym e)))) (λ e. absurd (clashℤ low (at-most-equal e)));
 }
 
-pub even-at-half : {a b q : ℤ} → pos 0 <ℤ b → AtHalf a b q → isEven q ≡ true → NearestEven a b q
+even-at-half : {a b q : ℤ} → pos 0 <ℤ b → AtHalf a b q → isEven q ≡ true → NearestEven a b q
 even-at-half {a} {b} {q} p at-half is-even = record { near = ⊎-elim above below at-half; even = λ _. is-even }
   where
     above : pos 2 *ℤ (b *ℤ q -ℤ a) ≡ b → WithinHalf a b q

@@ -1,5 +1,4 @@
--- Which whole numbers are even. A number and what it is the difference of, `plus` and `minus`, are even or odd together, and `omega` reads
--- those.
+-- Which whole numbers are even. The size of a number is the sum of its two parts, `plus` and `minus`, and `omega` reads those.
 use mathlib.Core.Path.{_≡_, subst}
 use mathlib.Core.Bool.{true, false}
 use mathlib.Core.List.{[], _∷_}

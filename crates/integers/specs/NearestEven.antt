@@ -1,5 +1,5 @@
--- Request W6 in its own words, multiplied out: the nearest whole number, and of two equally near the even one. That r(a, b) is this number,
--- and the only one, are the laws `r-nearest-even` and `r-unique`.
+-- Request W6 multiplied out, for b above 0: the nearest whole number is within a half, and of two equally near, both at a half, it is the even
+-- one. That r(a, b) is this number, and the only one, are the laws `r-nearest-even` and `r-unique`.
 use mathlib.Core.Path.{_≡_}
 use mathlib.Core.Bool.{true}
 use mathlib.Core.Logic.{_⊎_}

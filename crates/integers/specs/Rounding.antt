@@ -1,4 +1,4 @@
--- Document 01, "Units and rounding", with r as request W6 has it. Every division of document 01 is one of these two.
+-- Document 01, "Units and rounding", with r as request W6 has it. Every division of document 01 is `floor` or `r`.
 use Prim.Native.Nat.{_/_, _%_}
 use mathlib.Core.Bool.{Bool, cond}
 use lib.Dec.{eqb}

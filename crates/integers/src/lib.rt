@@ -36,7 +36,8 @@ fn is_even(n: i64) -> bool
     n % 2 == 0
 }
 
-// r(a, b): nearest to a / b, halves to the even neighbour. The remainder decides, which doubles nothing, so that every a and b will do.
+// r(a, b): nearest to a / b, halves to the even neighbour. The remainder decides, and nothing is doubled, so that every a and every
+// b above 0 will do.
 pub fn round(a: i64, b: i64) -> i64
     requires { ⌜ pos 0 <ℤ b ⌝ }
     ensures { λ q. ⌜ q ≡ r a b ⌝ }
@@ -56,7 +57,7 @@ pub fn round(a: i64, b: i64) -> i64
     low + 1
 }
 
-// r(a, b) where 2a + b fits and 2b is at hand: one division, which leaves nothing exactly at a half.
+// r(a, b) where 2a + b fits and 2b is at hand: one division, of which nothing is left just where a / b is at a half.
 pub fn round_small(a: i64, b: i64, twice: i64) -> i64
     requires { ⌜ Bounded a (pos 2305843009213693952) × (pos 0 <ℤ b) × (b ≤ℤ pos 2305843009213693952) × (twice ≡ pos 2 *ℤ b) ⌝ }
     ensures { λ q. ⌜ q ≡ r a b ⌝ }

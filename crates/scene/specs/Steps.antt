@@ -37,7 +37,7 @@ c0Of offset = pos (offset / 65536) -ℤ pos 32768
 pub record BiasNumbers (factor offset : ℕ) : Type 0 where
   pub e : Bounded (eOf factor) (pos 32768)
   pub c0 : Bounded (c0Of offset) (pos 4096)
-  pub half : offset % 65536 ≡ 32767
+  pub below-half : offset % 65536 ≡ 32767
 
 -- r(X(65,536 - X) × 4 TNL, 2^32), where the curve is 4 TNL
 abbrev pub bendOf : (X curve : ℤ) → ℤ

@@ -103,7 +103,8 @@ fn unsure(x: u64, linear: u64, edge: u32) -> bool
     edge < (linear % 4_294_967_296) as u32
 }
 
-// r(X(65,536 - X) × 4 TNL, 2^32), raised by 2^20: what is rounded is then never negative, and the division is a shift.
+// r(X(65,536 - X) × 4 TNL, 2^32), raised by 2^20: what is rounded is then never negative, the divisions are shifts, and 2^20 is
+// even, so that the even neighbour stays the even one.
 fn raised_bend(x: i64, curve: i64) -> i64
     requires { ⌜ Bounded x (pos 81920) × Bounded curve (pos 32768) ⌝ }
     ensures { λ t. ⌜ t ≡ bendOf x curve +ℤ pos 1048576 ⌝ }

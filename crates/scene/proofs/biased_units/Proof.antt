@@ -1,11 +1,11 @@
 -- `scene::biased_units` meets its contract: T and the two numbers are natural, their product is below 2^38, and with the offset and
--- the last bit of its quotient it is divided as `r-of-naturals` does it; with c0 it is from 1 to 16,777,215. Assumes nothing.
+-- the last bit of its own quotient it is divided as `r-of-naturals` does it; with c0 it is from 1 to 16,777,215. Assumes nothing.
 use Prim.Native.Nat.{ℕ, _+_, _*_, _/_, _%_, _≤_}
 use native.Mathlib.Omega.{arith}
 use mathlib.Core.Path.{_≡_, sym, ap, _∙_}
 use mathlib.Core.List.{[], _∷_}
 use lib.Dec.{lit<}
-use lib.IntN.{ℤ, pos, natAbs, _+ℤ_, _-ℤ_, _*ℤ_}
+use lib.IntN.{pos, natAbs, _+ℤ_, _-ℤ_, _*ℤ_}
 use lib.Signed.{_≤ℤ_, yes-nonNeg, pos-natAbs}
 use mir.Syntax.{w32}
 use mir.Val.{SFits, toZ}
@@ -27,7 +27,7 @@ use Rattle.scene.proofs.biased_units.Tie as tie
 quotient-is-rounding : (a : ℕ) → pos ((a + 32767 + a / 65536 % 2) / 65536) ≡ r (pos a) (pos 65536)
 quotient-is-rounding a = r-of-naturals a 32768 (omega arith)
 
-module _ (p offset : ℕ) (half : offset % 65536 ≡ 32767) where
+module _ (p offset : ℕ) (below-half : offset % 65536 ≡ 32767) where
   quotient-parts : (p + offset + p / 65536 % 2) / 65536 ≡ offset / 65536 + (p + 32767 + p / 65536 % 2) / 65536
   quotient-parts = omega arith
 
@@ -64,7 +64,7 @@ module _ (s : tie.Start) where
   delivered-is =
       let high = pos (s .args .offset / 65536) in
       let rounded = r (pos product) (pos 65536) in
-      ap (λ (n : ℕ). pos n -ℤ pos 32768) (quotient-parts product (s .args .offset) (s .pre .2 .half))
+      ap (λ (n : ℕ). pos n -ℤ pos 32768) (quotient-parts product (s .args .offset) (s .pre .2 .below-half))
       ∙ ap (λ z. high +ℤ z -ℤ pos 32768) (quotient-is-rounding product)
       ∙ ring (high ∷ rounded ∷ []) (v0 :+ v1 :- # 32768) (v0 :- # 32768 :+ v1) tt
       ∙ ap (λ z. c0Of (s .args .offset) +ℤ r z (pos 65536)) (sym product-is)
