@@ -1,7 +1,7 @@
 -- `integers::round` meets its contract: its tests are those of the definition. One more than the floor is taken only where at least half of b
 -- is left, so that b is at least 2 and it fits. Assumes nothing.
 use mathlib.Core.Path.{_≡_, sym, ap, _∙_}
-use mathlib.Core.Bool.{cond}
+use mathlib.Core.Bool.{Bool, true, false, cond}
 use mathlib.Core.List.{[], _∷_}
 use lib.IntN.{ℤ, pos, _+ℤ_, _-ℤ_, _*ℤ_}
 use lib.Signed.{_≤ℤ_, _<ℤ_}
@@ -100,13 +100,16 @@ module _ (c : tie.After-is-even) where
   test-is : c .is-even .result ≡ isEven (floor (a m) (b m))
   test-is = rw (low-is m) at (c .is-even .ensures)
 
+  chosen : (t : Bool) → c .is-even .result ≡ t → cond t (floor (a m) (b m)) (floor (a m) (b m) +ℤ pos 1) ≡ r (a m) (b m)
+  chosen t h = ap (λ t. cond t (floor (a m) (b m)) (floor (a m) (b m) +ℤ pos 1)) (sym h ∙ test-is) ∙ midway
+
 is-even-requires : tie.Need-is-even-requires
 is-even-requires c κs = search needs
 
 returns-3 : tie.Need-returns-3
 returns-3 c =
     let e = c .before in
-    low-is (m e) ∙ sym (ap (λ t. cond t (floor (a (m e)) (b (m e))) (floor (a (m e)) (b (m e)) +ℤ pos 1)) (sym (test-is e) ∙ c .if3 .taken)) ∙ midway e
+    low-is (m e) ∙ chosen e true (c .if3 .taken)
 
 add-result-2 : tie.Need-add-result-2
 add-result-2 c = next-fits (m (c .before)) (half-or-more (c .before .before .before))
@@ -114,7 +117,7 @@ add-result-2 c = next-fits (m (c .before)) (half-or-more (c .before .before .bef
 returns-4 : tie.Need-returns-4
 returns-4 c =
     let e = c .before in
-    next-is (m e) (half-or-more (e .before .before)) ∙ sym (ap (λ t. cond t (floor (a (m e)) (b (m e))) (floor (a (m e)) (b (m e)) +ℤ pos 1)) (sym (test-is e) ∙ c .if3 .left)) ∙ midway e
+    next-is (m e) (half-or-more (e .before .before)) ∙ chosen e false (c .if3 .left)
 
 pub round-spec : {M : Type 1} → statement M
 round-spec =
