@@ -142,7 +142,7 @@ module _ (earth c i : ℕ) (below : c < channels) (inside : i < positions) where
 module _ (earth : ℕ) where
   -- ---- what it keeps
 
-  bench-samples : acceptedSamples benchSettings (benchScan earth) ≡ samplesWith (record { warm = samplesAt 4 20000; cold = samplesAt 4 10000 })
+  pub bench-samples : acceptedSamples benchSettings (benchScan earth) ≡ samplesWith (record { warm = samplesAt 4 20000; cold = samplesAt 4 10000 })
   unfolding benchTable benchScan tabulate acceptedCounts fourCounts withinLimits acceptedSides withoutOverlap good differs count chosenTo
   bench-samples = samples-are (benchScan earth) _ refl refl
 

@@ -13,6 +13,7 @@ use lib.IntN.{ℤ, pos, _*ℤ_}
 use borrow.Author.Tests.{le-leb}
 use Rattle.integers.specs.Fractions.{whole, Equal}
 use Rattle.integers.specs.Rounding.{floor, r}
+use Rattle.lists.specs.All.{All}
 use Rattle.lists.specs.Build.{tabulate, cells}
 use Rattle.lists.specs.Count.{count}
 use Rattle.lists.specs.Sum.{sum}
@@ -27,7 +28,9 @@ use Rattle.samples.specs.Good.{differs, good, chosenTo}
 use Rattle.bias.specs.Bias.{zeroBias}
 use Rattle.bias.proofs.Zeros.{zero-bias-accepted}
 use Rattle.acceptance.specs.Counts.{Sides, fourCounts, withinLimits, withoutOverlap, acceptedSides, noCounts}
-use Rattle.acceptance.specs.Accepted.{acceptedCounts, acceptedSamples}
+use Rattle.acceptance.specs.Accepted.{acceptedCounts, AcceptedSamples, acceptedSamples}
+use Rattle.acceptance.specs.Bracketed.{SampleBracketed}
+use Rattle.thermometer.specs.Equations.{measuredRatio, Bracketed}
 use Rattle.acceptance.specs.Kept.{keptScan}
 use Rattle.scene.specs.declared.Channel.{Channel}
 use Rattle.window.specs.Ages.{noScan, windowOf, shifted, windowAfter}
@@ -54,16 +57,17 @@ use Rattle.promise.proofs.CountLaws.{answers-say, higher-count-higher-t}
 use Rattle.bench.proofs.BenchBytes.{bench-scan-bytes}
 use Rattle.promise.specs.SameScenes.{FedChannel, settingsOfFed, momentOfFed, fedFlag, fedNumbers, fedScene}
 use Rattle.product.specs.Product.{productSize}
-use Rattle.bench.specs.Bench.{benchTable, perChannel, shelfBytes, benchScan, benchCalibrator, benchSettings, benchMoment, benchChannel, benchT}
+use Rattle.bench.specs.Bench.{benchTable, instrumentBytes, perChannel, shelfBytes, benchScan, benchCalibrator, benchSettings, benchMoment, benchChannel, benchT}
 use Rattle.bench.specs.Witnesses.{rejectedScan, flaggedScan, zeros, rejectedList, oneOfEach, replies}
 use Rattle.calibrator.proofs.Verdicts.{verdict-length-wrong, verdict-field-wrong, verdict-number-not-above, verdict-buffer-short}
-use Rattle.bench.proofs.BenchScan.{bench-table, bench-row, samplesAt, samplesWith, samples-are, benchMeans, bench-means, bench-tnl}
+use Rattle.bench.proofs.BenchScan.{bench-table, bench-row, samplesAt, samplesWith, samples-are, bench-samples, benchMeans, bench-means, bench-tnl}
 use Rattle.bench.proofs.FirstFeed.{states-by-kept, Gives, first-verdict, first-word, first-reply}
 use Rattle.bench.proofs.BenchFeed.{channels-of-kept, scene-delivered, bench-gives, bench-passes, bench-reply}
 use Rattle.bench.proofs.BenchRows.{tcOf, riseOf, rise-of-target, rows}
-use Rattle.promise.proofs.Plain.{same-scan-by, alike-accepted-by, alike-refused-by, alike-by, none-alike, same-products-say, each-says}
+use Rattle.promise.proofs.Plain.{same-scan-by, alike-accepted-by, alike-refused-by, alike-by, none-alike, same-products-say, each-says, fed-record-says}
 use Rattle.promise.proofs.SceneClaims.{bits-delivered}
 use Rattle.promise.proofs.Demand.{demand-three}
+use Rattle.promise.proofs.ThermometerLaws.{fed-thermometers-bracketed}
 use Rattle.promise.proofs.WithoutBiasLaws.{by-zero-bias}
 use Rattle.promise.proofs.SameScenesLaws.{byNumbers, scene-by-numbers, same-scenes}
 
@@ -348,7 +352,7 @@ module _ (earth : ℕ) (buffer : List ℕ) (room : productSize ≤ length buffer
     benchAnswer wanted = answerOf (step (calibratorAfter benchCalibrator []) (record { scan = benchScan earth; buffer = buffer }) .calibrator) (c + 1) wanted
 
     bench-says : (wanted : ℕ) → AnswerSays (fed c below) (benchAnswer wanted) wanted
-    unfolding AllOfBytes
+    unfolding All
     bench-says wanted = answers-say (fed c below) (tt, bench-scan-bytes earth small) (fed-flag-zero c below) (record { bytes = zeroBias }) wanted
 
     pub count-behind-h4 : benchAnswer 565394 ≡ foundCount 15000
@@ -360,5 +364,14 @@ module _ (earth : ℕ) (buffer : List ℕ) (room : productSize ≤ length buffer
     scene-of-h5 = scene-by-bench-numbers c below 10000
 
     pub h5-below-h4 : pos 11166 <ℤ pos 565394
-    unfolding AllOfBytes
+    unfolding All
     h5-below-h4 = higher-count-higher-t (fed c below) (tt, bench-scan-bytes earth small) 10000 15000 (pos 11166) (pos 565394) (lit< tt) scene-of-h5 (scene-of-h4 c below)
+
+  -- request W7: every thermometer of the bench scan has T 1,118,822, and of the first 0 is bracketed by its counts
+  pub first-thermometer-bracketed : Bracketed 3850000 1500000 0 (measuredRatio 2000000 2000000 20000 0 20000) (pos 0)
+  unfolding All tabulate cells benchTable benchScan instrumentBytes
+  first-thermometer-bracketed =
+      let scan = benchScan earth in
+      let claim = fed-record-says fed-thermometers-bracketed (record { bytes = benchTable }) [] (record { scan = scan; buffer = buffer }) fed-passes in
+      subst (λ (samples : AcceptedSamples). All (SampleBracketed benchSettings scan Kav) (samples .kav)) (bench-samples earth) (claim .kav) .0
+

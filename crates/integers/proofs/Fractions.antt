@@ -1,12 +1,12 @@
--- Laws on fractions whose denominators are above 0: products of denominators, and a distance that does not depend on how a fraction is written.
+-- Laws on fractions whose denominators are above 0: products of denominators; a distance and an order do not depend on how a fraction is written.
 use mathlib.Core.Path.{_≡_, sym, _∙_, ap}
 use mathlib.Core.List.{[], _∷_}
 use lib.IntN.{ℤ, pos, _-ℤ_, _*ℤ_}
 use lib.Signed.{_<ℤ_}
-use Rattle.integers.specs.Fractions.{Fraction, whole, _≡ᶠ_, _≤ᶠ_, Equal, Near, Distance}
+use Rattle.integers.specs.Fractions.{Fraction, whole, _≡ᶠ_, _≤ᶠ_, Equal, Below, Near, Distance}
 use Rattle.integers.proofs.Ring.{_:-_, _:*_, opp, ring, #, v0, v1, v2, v3, v4, v5}
 use Rattle.integers.proofs.Order.{below-at-most}
-use Rattle.integers.proofs.Certificate.{_:≤_, _:<_, hyp, _⊕_, _⊗_, le-by, lt-by}
+use Rattle.integers.proofs.Certificate.{_:≤_, _:<_, _:≡_, hyp, tim, _⊕_, _⊗_, le-by, lt-by}
 use Rattle.integers.proofs.Bounds.{bounded-product, bounded-by-itself, bounded-equal, bounded-cancel}
 
 pub product-above : {a b : ℤ} → pos 0 <ℤ a → pos 0 <ℤ b → pos 0 <ℤ (a *ℤ b)
@@ -50,4 +50,19 @@ near-of-distance {limit} {e} {t} {a} is h = record {
       ∙ ap (λ n. limit .den *ℤ (n *ℤ e .den -ℤ e .num *ℤ a .den)) (sym (is .same) ∙ times-one (a .num)))
       (ring ((limit .num) ∷ (e .den) ∷ (a .den) ∷ []) (v0 :* v1 :* v2) (v0 :* (v2 :* v1)) tt)
       (bounded-product (h .apart) (bounded-by-itself (below-at-most (is .left-above))));
+}
+
+-- a fraction that is equal, written otherwise, is below the same fractions, and above the same
+pub below-same-left : {a b c : Fraction} → Equal a b → Below b c → Below a c
+below-same-left {a} {b} {c} s h = record {
+  left-above = s .left-above;
+  right-above = h .right-above;
+  below = (lt-by ((a .num) ∷ (a .den) ∷ (b .num) ∷ (b .den) ∷ (c .num) ∷ (c .den) ∷ []) ((# 0 :< v1) ∷ (# 0 :< v3) ∷ (v0 :* v3 :≡ v2 :* v1) ∷ (v2 :* v5 :< v4 :* v3) ∷ []) (v0 :* v5) (v4 :* v1) (hyp 0 ⊕ hyp 1 ⊕ hyp 4 ⊕ hyp 0 ⊗ hyp 2 ⊕ hyp 1 ⊗ hyp 4 ⊕ tim (# 1 :* v5) 3) tt (s .left-above) (s .right-above) (s .same) (h .below));
+}
+
+pub below-same-right : {a b c : Fraction} → Equal c b → Below a b → Below a c
+below-same-right {a} {b} {c} s h = record {
+  left-above = h .left-above;
+  right-above = s .left-above;
+  below = (lt-by ((a .num) ∷ (a .den) ∷ (b .num) ∷ (b .den) ∷ (c .num) ∷ (c .den) ∷ []) ((# 0 :< v5) ∷ (# 0 :< v3) ∷ (v4 :* v3 :≡ v2 :* v5) ∷ (v0 :* v3 :< v2 :* v1) ∷ []) (v0 :* v5) (v4 :* v1) (hyp 0 ⊕ hyp 1 ⊕ hyp 4 ⊕ hyp 0 ⊗ hyp 2 ⊕ hyp 1 ⊗ hyp 4 ⊕ tim (opp (# 1 :* v1)) 3) tt (s .left-above) (s .right-above) (s .same) (h .below));
 }

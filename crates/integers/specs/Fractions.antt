@@ -46,6 +46,12 @@ pub record Equal (a b : Fraction) : Type 0 where
   pub right-above : pos 0 <ℤ b .den
   pub same : a ≡ᶠ b
 
+-- a is below b
+pub record Below (a b : Fraction) : Type 0 where
+  pub left-above : pos 0 <ℤ a .den
+  pub right-above : pos 0 <ℤ b .den
+  pub below : a <ᶠ b
+
 -- a and b are at most `limit` apart
 pub record Near (limit a b : Fraction) : Type 0 where
   pub left-above : pos 0 <ℤ a .den

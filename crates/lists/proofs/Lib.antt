@@ -9,3 +9,4 @@ pub mod Count
 pub mod Every
 pub mod Sum
 pub mod Tests
+pub mod All

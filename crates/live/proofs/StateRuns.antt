@@ -7,6 +7,7 @@ use mathlib.Core.List.{List, [], _∷_, _++_}
 use mathlib.Core.Bool.{Bool, false≢true}
 use lib.ListN.{length, getD, take, drop}
 use lib.Seq.{take-at, drop-at}
+use Rattle.lists.specs.All.{All}
 use Rattle.lists.specs.Build.{put}
 use Rattle.lists.specs.Tests.{Verdict, passes, fails}
 use Rattle.table.specs.declared.Table.{Table}
@@ -103,7 +104,7 @@ pub record SavedAs (state : List ℕ) (c : Calibrator) : Type 0 where
   pub savable : Savable c
 
 pub saved-after : (calls : List Call) → AllOfBytes (feedsOf calls) → {state : List ℕ} {c : Calibrator} → SavedAs state c → SavedAs (stateAfter state calls) (calibratorAfter c (feedsOf calls))
-unfolding AllOfBytes stateAfter calibratorAfter
+unfolding All stateAfter calibratorAfter
 saved-after [] bytes saved-as = saved-as
 saved-after (call ∷ more) bytes saved-as =
     saved-after more (bytes .1)

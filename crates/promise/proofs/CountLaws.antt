@@ -9,6 +9,7 @@ use lib.Dec.{eqb}
 use lib.IntN.{ℤ, pos, _-ℤ_}
 use lib.Signed.{_<ℤ_}
 use borrow.Author.Tests.{eqb-true, eq-eqb, le-leb}
+use Rattle.lists.specs.All.{All}
 use Rattle.lists.specs.Tests.{Verdict}
 use Rattle.lists.proofs.Tabulate.{getD-tabulate}
 use Rattle.instrument.specs.Instrument.{channels}
@@ -154,7 +155,7 @@ same-after-restart table bias before feed buffer room e channel wanted = ap (λ 
 
 -- ---- the constants that are kept are in their ranges
 sound-after : (feeds : List Feed) → AllOfBytes feeds → {c : Calibrator} → Sound c → Sound (calibratorAfter c feeds)
-unfolding AllOfBytes calibratorAfter
+unfolding All calibratorAfter
 sound-after [] bytes sound = sound
 sound-after (feed ∷ more) bytes sound = sound-after more (bytes .1) (sound-after-step sound feed (bytes .0))
 

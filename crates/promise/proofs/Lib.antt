@@ -9,3 +9,4 @@ pub mod Plain
 pub mod WithoutBiasLaws
 pub mod SameScenesLaws
 pub mod CountLaws
+pub mod ThermometerLaws

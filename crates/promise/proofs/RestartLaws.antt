@@ -91,7 +91,7 @@ recent-made number (scan ∷ roll) made = go (ltb number (scanNumber scan + ages
     go false older = older
 
 -- ---- feeding them again is accepted, and makes that roll
-rolled-append : (feeds more : List Feed) (roll : Roll) → rolledBy roll (feeds ++ more) ≡ rolledBy (rolledBy roll feeds) more
+pub rolled-append : (feeds more : List Feed) (roll : Roll) → rolledBy roll (feeds ++ more) ≡ rolledBy (rolledBy roll feeds) more
 unfolding rolledBy
 rolled-append [] more roll = refl
 rolled-append (feed ∷ feeds) more roll = rolled-append feeds more (joined roll feed)

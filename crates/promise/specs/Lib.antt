@@ -8,3 +8,4 @@ pub mod WithoutBias
 pub mod SameScenes
 pub mod BeforeBias
 pub mod CountBehind
+pub mod Thermometers

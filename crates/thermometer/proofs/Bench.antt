@@ -27,7 +27,7 @@ admissible : Admissible 3850000 1500000 0
 admissible = omega arith
 
 -- place k is reached and the next is not
-answer-at-place : (k : ℕ) (m : ℤ) {here next : ℤ} → k < 491520 → F 3850000 1500000 0 (unitsAt k) ≡ here → F 3850000 1500000 0 (unitsAt (k + 1)) ≡ next
+pub answer-at-place : (k : ℕ) (m : ℤ) {here next : ℤ} → k < 491520 → F 3850000 1500000 0 (unitsAt k) ≡ here → F 3850000 1500000 0 (unitsAt (k + 1)) ≡ next
     → here ≤ℤ m → m <ℤ next → answer 3850000 1500000 0 m ≡ unitsAt k
 answer-at-place k m inside is-here is-next reached not-reached =
     answer-is 3850000 1500000 0 m {k = k} (omega arith)

@@ -38,14 +38,14 @@ module _ {t : ℤ} (range : InRange t) where
   unfolding q
   q-bounded = bounded-product t-bounded t-less-bounded
 
-  y-bounded : Bounded (y t) (pos 16106128)
+  pub y-bounded : Bounded (y t) (pos 16106128)
   unfolding y
   y-bounded = floor-at-most 16106128 (q t) (pos 10000) tt tt q-bounded
 
   pub square-bounded : Bounded (t *ℤ t) (pos 60397977600)
   square-bounded = bounded-product t-bounded t-bounded
 
-  w-bounded : Bounded (w t) (pos 6039798)
+  pub w-bounded : Bounded (w t) (pos 6039798)
   unfolding w
   w-bounded = floor-at-most 6039798 (t *ℤ t) (pos 10000) tt tt square-bounded
 

@@ -4,5 +4,9 @@ pub mod Places
 pub mod Ranges
 pub mod Answer
 pub mod ReadingLaws
+pub mod EquationNear
+pub mod EquationRises
+pub mod Bracketing
 pub mod Search
 pub mod Bench
+pub mod EquationRows

@@ -20,24 +20,24 @@ use Rattle.thermometer.specs.Ranges.{Admissible}
 use Rattle.thermometer.proofs.Bounds.{bracket}
 
 -- ---- s2 does not rise
-w-not-negative : (t : ℤ) → pos 0 ≤ℤ w t
+pub w-not-negative : (t : ℤ) → pos 0 ≤ℤ w t
 unfolding w
 w-not-negative t = floor-not-negative (t *ℤ t) (ltZ-yes tt) (square-not-negative t)
 
 -- below 0, q and t² fall or stay, and so does all that is formed of them
 module _ {t : ℤ} (below : t <ℤ pos 0) where
-  q-not-negative : pos 0 ≤ℤ q t
+  pub q-not-negative : pos 0 ≤ℤ q t
   unfolding q
   q-not-negative = (le-by (t ∷ []) ((v0 :< # 0) ∷ []) (# 0) (v0 :* (v0 :- # 409600)) (hyp 0 ⊕ nat 409602 ⊗ hyp 1 ⊕ hyp 1 ⊗ hyp 1) tt below)
 
-  q-falls : q (t +ℤ pos 1) ≤ℤ q t
+  pub q-falls : q (t +ℤ pos 1) ≤ℤ q t
   unfolding q
   q-falls = (le-by (t ∷ []) ((v0 :< # 0) ∷ []) ((v0 :+ # 1) :* (v0 :+ # 1 :- # 409600)) (v0 :* (v0 :- # 409600)) (hyp 0 ⊕ nat 2 ⊗ hyp 1) tt below)
 
-  square-falls : ((t +ℤ pos 1) *ℤ (t +ℤ pos 1)) ≤ℤ (t *ℤ t)
+  pub square-falls : ((t +ℤ pos 1) *ℤ (t +ℤ pos 1)) ≤ℤ (t *ℤ t)
   square-falls = (le-by (t ∷ []) ((v0 :< # 0) ∷ []) ((v0 :+ # 1) :* (v0 :+ # 1)) (v0 :* v0) (hyp 0 ⊕ nat 2 ⊗ hyp 1) tt below)
 
-  y-not-negative : pos 0 ≤ℤ y t
+  pub y-not-negative : pos 0 ≤ℤ y t
   unfolding y
   y-not-negative = floor-not-negative (q t) (ltZ-yes tt) q-not-negative
 

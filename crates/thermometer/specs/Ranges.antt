@@ -1,4 +1,5 @@
--- The ranges of the coefficients as orders, which the bounds of the rule rest on. A reader of the promises can leave this out.
+-- Document 01, "The table": the ranges of alpha, delta and beta as orders, which the bounds of the rule rest on and request W7 names. A
+-- reader of demand 3 can leave this out.
 use Prim.Native.Nat.{ℕ, _≤_}
 
 pub record Admissible (alpha delta beta : ℕ) : Type 0 where
