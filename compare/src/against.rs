@@ -9,6 +9,9 @@ use std::fmt::Debug;
 use crate::check::biases::checked_bias_answer;
 use crate::check::calls::checked_call;
 use crate::check::counters::Counters;
+use crate::check::equations::{
+    accepted_of_state, check_accepted_brackets, check_bracket, checked_equation,
+};
 use crate::check::halves::checked_halves;
 use crate::check::listings::{checked_listing, checked_stream};
 use crate::check::lists::checked_outcomes;
@@ -19,7 +22,7 @@ use crate::check::lookups::{
 use crate::check::numbers::checked_division;
 use crate::check::one_shelf::checked_one_shelf;
 use crate::check::outcomes::{outcomes, Outcome};
-use crate::check::samples::{count_samples, kept};
+use crate::check::samples::{accepted_of_kept, count_samples, kept};
 use crate::check::states::{
     checked_fresh, checked_state_feed, checked_state_run, outcome_of, probe, run_through_states,
     same_run, StateFunctions, StateOutcome,
@@ -178,7 +181,41 @@ pub fn thermometer(
 ) -> Result<(), String> {
     let input = thermometer_input(seed);
     let this = checked_thermometer(&input, counters)?;
-    same(input, other(&input).map(|t| t as i128), this)
+    same_thermometer(&input, other(&input), this)
+}
+
+/// The answer to one reading; a t of the other is bracketed by equation 19.
+fn same_thermometer(
+    input: &ThermometerInput,
+    other: Result<i32, u8>,
+    this: Result<i128, u8>,
+) -> Result<(), String> {
+    let other = other.map(|t| t as i128);
+    same(input, other, this)?;
+    match other {
+        Ok(t) => check_bracket(t, &input.reading(), &input.coefficients()),
+        Err(_) => Ok(()),
+    }
+}
+
+/// The thermometers of a record, aimed at where equation 19 tells most: each by itself, and T of those that a feed to a
+/// fresh state accepts. All of the other's are bracketed by the equation.
+pub fn equation(
+    seed: u64,
+    other: impl Fn(&ThermometerInput) -> Result<i32, u8>,
+    feed: impl Fn(&mut [u8], &[u8], &mut [u8]) -> u8,
+    counters: &mut Counters,
+) -> Result<(), String> {
+    let checked = checked_equation(seed, counters)?;
+    for (index, this) in checked.answers.iter().enumerate() {
+        let input = checked.case.input(index);
+        same_thermometer(&input, other(&input), *this)?;
+    }
+    let after = outcome_of(&checked.feed, feed);
+    same_state_outcome("the feed", &after, &checked.after)?;
+    let table = open(&checked.case.table.encode()).expect("the table is accepted");
+    let record = ScanRecord::read(&checked.feed.record).expect("the record is accepted");
+    check_accepted_brackets(&table, &record, &accepted_of_state(&after.state))
 }
 
 /// What the scan of each accepted record of a list keeps, given the bytes of table and record.
@@ -195,7 +232,9 @@ pub fn kept_values(
             let samples = accepted_samples(&table, &record);
             count_samples(&table, &record, &samples, counters);
             let about = format!("feed {} of the list", index + 1);
-            same(about, other(&list.table, &feed.record), kept(&samples))?;
+            let by_other = other(&list.table, &feed.record);
+            same(about, &by_other, &kept(&samples))?;
+            check_accepted_brackets(&table, &record, &accepted_of_kept(&by_other[44..]))?;
             roll.push(record);
         }
     }
@@ -818,6 +857,51 @@ mod tests {
             |seed, counters| thermometer(seed, wrong, counters),
             400
         ));
+    }
+
+    #[test]
+    fn a_t_beside_the_equation_is_told_where_both_answer_it() {
+        let mut counters = Counters::new();
+        for seed in 0..10 {
+            let checked = checked_equation(seed, &mut counters).unwrap();
+            for (index, answer) in checked.answers.iter().enumerate() {
+                let input = checked.case.input(index);
+                if let Ok(t) = answer {
+                    let bracketed = |t: i128| same_thermometer(&input, Ok(t as i32), Ok(t)).is_ok();
+                    assert!(
+                        bracketed(*t) && !bracketed(t - 3) && !bracketed(t + 3),
+                        "{input:?}"
+                    );
+                }
+            }
+        }
+    }
+
+    #[test]
+    fn thermometers_against_the_equation_differ_by_each_mistake_and_in_feeds() {
+        let right = |input: &ThermometerInput| {
+            one_thermometer(&input.reading(), &input.coefficients()).map(|t| t as i32)
+        };
+        type FeedState = fn(&mut [u8], &[u8], &mut [u8]) -> u8;
+        let finds_feed =
+            |feed: FeedState| finds(|seed, counters| equation(seed, right, feed, counters), 4);
+        assert!(!finds_feed(state::feed));
+        // T of the last thermometer one unit more.
+        assert!(finds_feed(|memory, record, buffer| {
+            let answer = state::feed(memory, record, buffer);
+            let mut values = StateValues::decode(memory);
+            values.thermometers[0][14] += 1;
+            memory[..12_576].copy_from_slice(&values.encode());
+            answer
+        }));
+        for mistake in MISTAKES {
+            let wrong = |input: &ThermometerInput| mistaken_thermometer(input, mistake);
+            let found = finds(
+                |seed, counters| equation(seed, wrong, state::feed, counters),
+                40,
+            );
+            assert!(found, "{mistake:?}");
+        }
     }
 
     #[test]

@@ -530,7 +530,7 @@ fn calibrate(input: &ListingInput) -> (Vec<u8>, String) {
 }
 
 /// The comparisons by the name that `--case` takes, and how many cases of each are run for a thousand.
-pub const KINDS: [(&str, Check, u64); 34] = [
+pub const KINDS: [(&str, Check, u64); 35] = [
     (
         "floor_div",
         |seed, counters| against::divisions(seed, floor_div, counters),
@@ -672,6 +672,11 @@ pub const KINDS: [(&str, Check, u64); 34] = [
         "lookup_bytes",
         |seed, counters| against::all_lookup_bytes(seed, guarded_count_behind, counters),
         1,
+    ),
+    (
+        "equation",
+        |seed, counters| against::equation(seed, thermometer, guarded_feed, counters),
+        50,
     ),
 ];
 

@@ -3,6 +3,7 @@
 use std::collections::BTreeMap;
 
 use super::counters::Counters;
+use super::equations::check_accepted_brackets;
 use super::outcomes::Outcome;
 use super::products::check_product;
 use super::rules::{scan_values, ScanValues};
@@ -171,6 +172,7 @@ pub fn checked_outcomes(list: &FeedList, counters: &mut Counters) -> Result<Vec<
                 return Err(about("another record joined the roll".to_string()));
             }
             let samples = accepted_samples(&table, &record);
+            check_accepted_brackets(&table, &record, &samples.thermometers).map_err(about)?;
             count_samples(&table, &record, &samples, counters);
             accepted.insert(record.number(), scan_values(&samples));
             let product = &buffer[..LENGTH];

@@ -10,6 +10,8 @@ pub mod biases;
 
 pub mod thermometers;
 
+pub mod equations;
+
 pub mod shelves;
 
 pub mod rules;

@@ -5,6 +5,7 @@ use std::panic::{catch_unwind, AssertUnwindSafe};
 use super::biases::{check_bias, check_bias_neighbours};
 use super::calls::check_call;
 use super::counters::Counters;
+use super::equations::check_equation;
 use super::halves::check_halves;
 use super::listings::check_listing;
 use super::lists::check_list;
@@ -27,7 +28,7 @@ use crate::generator::random::case_seed;
 pub type Check = fn(u64, &mut Counters) -> Result<(), String>;
 
 /// The kinds of cases, by the name that `--case` takes.
-pub const KINDS: [(&str, Check); 26] = [
+pub const KINDS: [(&str, Check); 27] = [
     ("division", check_divisions),
     ("neighbours", check_neighbours),
     ("table", check_table),
@@ -54,6 +55,7 @@ pub const KINDS: [(&str, Check); 26] = [
     ("lookup_channels", check_channels),
     ("lookup_neighbours", check_lookup_neighbours),
     ("lookup_bytes", check_lookup_bytes),
+    ("equation", check_equation),
 ];
 
 pub const DEFAULT_SEED: u64 = 20_260_101;
@@ -139,6 +141,7 @@ pub fn run_all(seed: u64, feeds: u64, counters: &mut Counters) -> Result<(), Fai
             "lookup_channels" => feeds / 2_000 + 1,
             "lookup_neighbours" => feeds / 4_000 + 1,
             "lookup_bytes" => feeds / 8_000 + 1,
+            "equation" => feeds / 20 + 1,
             _ => u64::MAX,
         };
         for index in 0..cases {

@@ -1,6 +1,7 @@
 //! Counts at which edges the samples of accepted records stand.
 
 use super::counters::Counters;
+use super::equations::count_bracket;
 use super::thermometers::Measured;
 use crate::generator::ratios::Mistake;
 use crate::second::acceptance::{
@@ -29,6 +30,18 @@ pub fn kept(samples: &AcceptedSamples) -> Vec<u32> {
     }
     values.extend(kelvin);
     values
+}
+
+/// The accepted thermometers of what a scan keeps of them: of each T, 0 where it is not accepted.
+pub fn accepted_of_kept(values: &[u32]) -> Vec<AcceptedThermometer> {
+    let all = values
+        .iter()
+        .enumerate()
+        .map(|(index, value)| AcceptedThermometer {
+            number: index + 1,
+            temperature: *value as i128,
+        });
+    all.filter(|one| one.temperature > 0).collect()
 }
 
 /// Counts which edges the samples of an accepted record stand at.
@@ -191,8 +204,8 @@ fn count_targets(accepted: &[AcceptedThermometer], counters: &mut Counters) {
     }
 }
 
-/// Counts t of an accepted thermometer around 0, its side of 0 °C at the ends of beta, and the mistakes
-/// with which its T would be another or it would be refused.
+/// Counts t of an accepted thermometer around 0, its side of 0 °C at the ends of beta, the mistakes with
+/// which its T would be another or it would be refused, and where its bracket by equation 19 stands.
 fn count_thermometer(
     table: &Table,
     record: &ScanRecord,
@@ -221,6 +234,8 @@ fn count_thermometer(
     if measured.shows(Mistake::NoTerm, coefficients, Some(t)) {
         met("another T by no fourth-degree term");
     }
+    let group = "accepted thermometer against the equation";
+    count_bracket(group, t, &reading, coefficients, counters);
 }
 
 fn count_differences(passed: &[i128], limits: &Limits, counters: &mut Counters, group: &str) {

@@ -5,6 +5,7 @@ use std::collections::BTreeMap;
 
 use super::biases::{count_edges, plain_bias_answer};
 use super::counters::Counters;
+use super::equations::{accepted_of_state, check_accepted_brackets};
 use super::kept_channels::{self, check_kept, count_kept};
 use super::lists::refusals;
 use super::outcomes::{outcomes, Outcome};
@@ -236,6 +237,7 @@ fn check_accepted(
     let table = open(&before[14..1_418]).expect("a state has an accepted table");
     let record = ScanRecord::read(&feed.record).expect("the record was accepted");
     let samples = accepted_samples(&table, &record);
+    check_accepted_brackets(&table, &record, &samples.thermometers)?;
     let own = kept(&samples);
     let own = [&own[..22], &own[22..44], &own[44..]];
     let ahead = last_number(before).map(|last| (record.number() - last) as u64);
@@ -498,7 +500,7 @@ where
 
 /// Feeds a list scan by scan through states. Between two feeds the state stays, is copied, is moved
 /// into longer memory with other bytes behind, or is built anew, from its values or from the records
-/// of its window.
+/// of its window. Each T of an accepted scan in its state is bracketed by equation 19.
 pub fn run_through_states<F, G>(
     list: &FeedList,
     seed: u64,
@@ -514,6 +516,7 @@ where
     if (functions.fresh)(&list.table, &list.bias, &mut memory) != 0 {
         return Err("no fresh state of an accepted table and bias file".to_string());
     }
+    let table = open(&list.table).expect("a list has an accepted table");
     let mut roll: Vec<ScanRecord> = Vec::new();
     let mut all = Vec::new();
     for (index, feed) in list.feeds.iter().enumerate() {
@@ -552,6 +555,8 @@ where
         };
         let outcome = outcome_of(&given, &functions.feed);
         if let Ok(record) = judge(&roll, &feed.record, feed.buffer.len()) {
+            let accepted = accepted_of_state(&outcome.state);
+            check_accepted_brackets(&table, &record, &accepted)?;
             roll.push(record);
         }
         memory = outcome.state.clone();

@@ -1,7 +1,8 @@
-//! Checks of the operation One thermometer: the refusals stated again, and t by F(t) and F(t + 1), stated
-//! again too.
+//! Checks of the operation One thermometer: the refusals stated again, t by F(t) and F(t + 1), stated again too, and
+//! its bracket by equation 19.
 
 use super::counters::Counters;
+use super::equations::{check_bracket, count_bracket};
 use crate::generator::ratios::{ratio, Mistake};
 use crate::generator::thermometers::{thermometer_input, ThermometerInput};
 use crate::second::thermometer::{
@@ -100,6 +101,9 @@ pub fn checked_thermometer(
             if !measured.has_greatest(t, f) {
                 return Err(format!("{input:?}: {t} is not the greatest t"));
             }
+            check_bracket(t, &input.reading(), &coefficients)?;
+            let group = "thermometer against the equation";
+            count_bracket(group, t, &input.reading(), &coefficients, counters);
             counters.met("thermometer answer", "t");
             if measured.is_at(f(t)) {
                 counters.met("thermometer edge", "M at F(t)");

@@ -61,3 +61,5 @@ pub mod six_numbers;
 pub mod halves;
 
 pub mod lookups;
+
+pub mod equations;

@@ -11,6 +11,10 @@ pub mod bytes;
 
 pub mod thermometer;
 
+pub mod wide;
+
+pub mod equation;
+
 pub mod table;
 
 pub mod record;

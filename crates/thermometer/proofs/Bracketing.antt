@@ -15,7 +15,7 @@ use Rattle.thermometer.specs.Rule.{one, M, F, highest, InRange, Greatest
 use Rattle.thermometer.specs.Ranges.{Admissible}
 use Rattle.thermometer.specs.Equations.{AnswersBracketed}
 use Rattle.thermometer.proofs.ReadingLaws.{reading-units-answered}
-use Rattle.thermometer.proofs.EquationNear.{perUnit, exactF, equation-is, F-low, F-high}
+use Rattle.thermometer.proofs.EquationNear.{part, exactF, equation-is, F-low, F-high}
 use Rattle.thermometer.proofs.EquationRises.{exact-rises}
 
 -- ---- around M
@@ -32,32 +32,32 @@ module _ {alpha delta beta : ℕ} (admissible : Admissible alpha delta beta) {m 
   second-at-most-past : (t +ℤ pos 2) ≤ℤ pos 245762
   second-at-most-past = (le-by (t ∷ []) ((v0 :≤ # 245760) ∷ []) (v0 :+ # 2) (# 245762) (hyp 0 ⊕ hyp 1) tt (answer .inside .high))
 
-  exact-before : exact (t -ℤ pos 1) <ℤ (perUnit *ℤ m)
+  exact-before : exact (t -ℤ pos 1) <ℤ (part *ℤ m)
   exact-before = (lt-by ((exact (t -ℤ pos 1)) ∷ (exact t) ∷ (F alpha delta beta t) ∷ m ∷ []) ((v0 :+ # 12 :* # 1677721600000000000000000000000 :≤ v1) ∷ (v1 :< # 1677721600000000000000000000000 :* (v2 :+ # 1)) ∷ (v2 :≤ v3) ∷ []) v0 (# 1677721600000000000000000000000 :* v3) (hyp 0 ⊕ hyp 1 ⊕ hyp 2 ⊕ nat 1677721600000000000000000000000 ⊗ hyp 3) tt (exact-rises admissible (t -ℤ pos 1) (ring (t ∷ []) (v0 :- # 1 :+ # 1) v0 tt) at-most-past) (F-low admissible (answer .inside)) (answer .reached))
 
   -- t + 1 is in the range, and not reached
-  exact-next-inside : InRange (t +ℤ pos 1) → (perUnit *ℤ m) ≤ℤ exact (t +ℤ pos 1)
+  exact-next-inside : InRange (t +ℤ pos 1) → (part *ℤ m) ≤ℤ exact (t +ℤ pos 1)
   exact-next-inside range = by-reach (at-most-or-above (F alpha delta beta (t +ℤ pos 1)) m)
     where
-      by-reach : (F alpha delta beta (t +ℤ pos 1) ≤ℤ m) ⊎ (m <ℤ F alpha delta beta (t +ℤ pos 1)) → (perUnit *ℤ m) ≤ℤ exact (t +ℤ pos 1)
+      by-reach : (F alpha delta beta (t +ℤ pos 1) ≤ℤ m) ⊎ (m <ℤ F alpha delta beta (t +ℤ pos 1)) → (part *ℤ m) ≤ℤ exact (t +ℤ pos 1)
       by-reach (inl reached) = absurd (clash-by (t ∷ []) ((v0 :+ # 1 :≤ v0) ∷ []) (hyp 0) tt (answer .most (t +ℤ pos 1) range reached))
       by-reach (inr past) = (le-by ((exact (t +ℤ pos 1)) ∷ (F alpha delta beta (t +ℤ pos 1)) ∷ m ∷ []) ((# 6 :* (# 1677721600000000000000000000000 :* v1) :≤ # 6 :* v0 :+ # 1677721600000000000000000000000) ∷ (v2 :< v1) ∷ []) (# 1677721600000000000000000000000 :* v2) v0 (nat 6 ⊗ hyp 0 ⊕ hyp 1 ⊕ nat 10066329600000000000000000000000 ⊗ hyp 2) tt (F-high admissible range) past)
 
   -- t is the last of the range, and M is not above its F
-  exact-next-outside : m ≤ℤ F alpha delta beta t → (perUnit *ℤ m) ≤ℤ exact (t +ℤ pos 1)
+  exact-next-outside : m ≤ℤ F alpha delta beta t → (part *ℤ m) ≤ℤ exact (t +ℤ pos 1)
   exact-next-outside within = (le-by ((exact (t +ℤ pos 1)) ∷ (exact t) ∷ (F alpha delta beta t) ∷ m ∷ []) ((v1 :+ # 12 :* # 1677721600000000000000000000000 :≤ v0) ∷ (# 6 :* (# 1677721600000000000000000000000 :* v2) :≤ # 6 :* v1 :+ # 1677721600000000000000000000000) ∷ (v3 :≤ v2) ∷ []) (# 1677721600000000000000000000000 :* v3) v0 (nat 6 ⊗ hyp 0 ⊕ nat 6 ⊗ hyp 1 ⊕ hyp 2 ⊕ nat 10066329600000000000000000000000 ⊗ hyp 3) tt (exact-rises admissible t refl next-at-most-past) (F-high admissible (answer .inside)) within)
 
-  exact-next : m ≤ℤ F alpha delta beta highest → (perUnit *ℤ m) ≤ℤ exact (t +ℤ pos 1)
+  exact-next : m ≤ℤ F alpha delta beta highest → (part *ℤ m) ≤ℤ exact (t +ℤ pos 1)
   exact-next within = by-place (at-most-or-above (t +ℤ pos 1) highest)
     where
-      by-place : ((t +ℤ pos 1) ≤ℤ highest) ⊎ (highest <ℤ (t +ℤ pos 1)) → (perUnit *ℤ m) ≤ℤ exact (t +ℤ pos 1)
+      by-place : ((t +ℤ pos 1) ≤ℤ highest) ⊎ (highest <ℤ (t +ℤ pos 1)) → (part *ℤ m) ≤ℤ exact (t +ℤ pos 1)
       by-place (inl inside) = exact-next-inside (record { low = (le-by (t ∷ []) ((opp (# 245760) :≤ v0) ∷ []) (opp (# 245760)) (v0 :+ # 1) (hyp 0 ⊕ hyp 1) tt (answer .inside .low)); high = inside })
       by-place (inr outside) =
           let last : highest ≡ t
           = at-most-antisym (le-by (t ∷ []) ((# 245760 :< v0 :+ # 1) ∷ []) (# 245760) v0 (hyp 0 ⊕ hyp 1) tt outside) (answer .inside .high) in
           exact-next-outside (subst (λ u. m ≤ℤ F alpha delta beta u) last within)
 
-  exact-behind : m ≤ℤ F alpha delta beta highest → (perUnit *ℤ (m +ℤ pos 1)) ≤ℤ exact (t +ℤ pos 2)
+  exact-behind : m ≤ℤ F alpha delta beta highest → (part *ℤ (m +ℤ pos 1)) ≤ℤ exact (t +ℤ pos 2)
   exact-behind within = (le-by ((exact (t +ℤ pos 2)) ∷ (exact (t +ℤ pos 1)) ∷ m ∷ []) ((v1 :+ # 12 :* # 1677721600000000000000000000000 :≤ v0) ∷ (# 1677721600000000000000000000000 :* v2 :≤ v1) ∷ []) (# 1677721600000000000000000000000 :* (v2 :+ # 1)) v0 (hyp 0 ⊕ hyp 1 ⊕ hyp 2) tt (exact-rises admissible (t +ℤ pos 1) (ring (t ∷ []) (v0 :+ # 1 :+ # 1) (v0 :+ # 2) tt) second-at-most-past) (exact-next within))
 
 -- ---- the measured ratio n / d: M is the floor of 2^24 n / d

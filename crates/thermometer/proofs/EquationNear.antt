@@ -25,11 +25,11 @@ use Rattle.thermometer.proofs.Rises.{q-not-negative, y-not-negative, w-
 abbrev pub scale : ℤ
 scale = pos 26843545600000000000000
 
--- 62,500,000 times that: what 1 of F comes to
-abbrev pub perUnit : ℤ
-perUnit = pos 1677721600000000000000000000000
+-- 62,500,000 times that: what a part, 1 of F, comes to
+abbrev pub part : ℤ
+part = pos 1677721600000000000000000000000
 
--- what beta's part has of t
+-- what beta is multiplied by: q × t²
 abbrev pub quartic : ℤ → ℤ
 quartic t = q t *ℤ (t *ℤ t)
 
@@ -37,11 +37,11 @@ quartic t = q t *ℤ (t *ℤ t)
 abbrev pub exactBracket : (delta : ℕ) (beta t : ℤ) → ℤ
 exactBracket delta beta t = scale *ℤ (pos 256 *ℤ t) -ℤ pos 167772160000 *ℤ (pos delta *ℤ q t) -ℤ beta *ℤ quartic t
 
--- perUnit times F without floors
+-- a part times F without floors
 unfoldable pub exactF : (alpha delta beta : ℕ) → ℤ → ℤ
-exactF alpha delta beta t = perUnit *ℤ one +ℤ pos alpha *ℤ exactBracket delta (betaAt beta t) t
+exactF alpha delta beta t = part *ℤ one +ℤ pos alpha *ℤ exactBracket delta (betaAt beta t) t
 
-pub equation-is : (alpha delta beta : ℕ) (t : ℤ) → Equal (equationRatio alpha delta beta t) (exactF alpha delta beta t /ᶠ (perUnit *ℤ one))
+pub equation-is : (alpha delta beta : ℕ) (t : ℤ) → Equal (equationRatio alpha delta beta t) (exactF alpha delta beta t /ᶠ (part *ℤ one))
 unfolding equationRatio exactF q
 equation-is alpha delta beta t = record {
   left-above = ltZ-yes tt;
@@ -49,7 +49,7 @@ equation-is alpha delta beta t = record {
   same = (ring ((pos alpha) ∷ (pos delta) ∷ (betaAt beta t) ∷ t ∷ []) ((# 1 :* # 19342813113834066795298816000000000000000000000000000000000 :+ v0 :* ((v3 :* # 167772160000000000 :- v1 :* (v3 :* # 1 :* # 1 :- # 1 :* # 409600) :* (v3 :* # 1) :* # 4096) :* # 28147497671065600000000000000 :- v2 :* (v3 :* # 1 :* # 1 :- # 1 :* # 409600) :* (v3 :* # 1 :* (v3 :* # 1) :* (v3 :* # 1)) :* # 687194767360000000000) :* # 1) :* (# 1677721600000000000000000000000 :* # 16777216)) ((# 1677721600000000000000000000000 :* # 16777216 :+ v0 :* (# 26843545600000000000000 :* (# 256 :* v3) :- # 167772160000 :* (v1 :* (v3 :* (v3 :- # 409600))) :- v2 :* (v3 :* (v3 :- # 409600) :* (v3 :* v3)))) :* # 19342813113834066795298816000000000000000000000000000000000) tt);
 }
 
--- ---- s1 and s2 take less than 1 by a floor; s2 takes up to 1/12 more, by the floors of y, w and h
+-- ---- s1 and s2 each take less than 1 by their floors; s2 takes up to 1/12 more, by those of y, w and h
 pub s1-low : (delta : ℕ) (t : ℤ) → (scale *ℤ s1 delta t) ≤ℤ (pos 167772160000 *ℤ (pos delta *ℤ q t))
 unfolding s1
 s1-low delta t = (le-by ((pos delta *ℤ q t) ∷ (floor (pos delta *ℤ q t) (pos 160000000000)) ∷ []) ((# 160000000000 :* v1 :≤ v0) ∷ []) (# 26843545600000000000000 :* v1) (# 167772160000 :* v0) (hyp 0 ⊕ nat 167772160000 ⊗ hyp 1) tt (floor-low (pos delta *ℤ q t) {b = pos 160000000000} (ltZ-yes tt)))
@@ -59,7 +59,7 @@ unfolding s1
 s1-high delta t = (le-by ((pos delta *ℤ q t) ∷ (floor (pos delta *ℤ q t) (pos 160000000000)) ∷ []) ((v0 :< # 160000000000 :* v1 :+ # 160000000000) ∷ []) (# 167772160000 :* v0) (# 26843545600000000000000 :* v1 :+ # 26843545600000000000000) (hyp 0 ⊕ nat 167772160000 ⊗ hyp 1) tt (floor-high (pos delta *ℤ q t) {b = pos 160000000000} (ltZ-yes tt)))
 
 module _ {t : ℤ} (range : InRange t) (below : t <ℤ pos 0) where
-  -- q × t² between 10^8 times its staged product and that and the floors of y and w
+  -- between 10^8 times y × w and what the floors of y and w take more
   staged-product-low : (pos 100000000 *ℤ (y t *ℤ w t)) ≤ℤ quartic t
   unfolding y w
   staged-product-low = (le-by ((q t) ∷ (t *ℤ t) ∷ (floor (q t) (pos 10000)) ∷ (floor (t *ℤ t) (pos 10000)) ∷ []) ((# 10000 :* v2 :≤ v0) ∷ (# 10000 :* v3 :≤ v1) ∷ (# 0 :≤ v2) ∷ (# 0 :≤ v3) ∷ []) (# 100000000 :* (v2 :* v3)) (v0 :* v1) (hyp 0 ⊕ hyp 1 ⊗ hyp 2 ⊕ nat 10000 ⊗ hyp 1 ⊗ hyp 4 ⊕ nat 10000 ⊗ hyp 2 ⊗ hyp 3) tt (floor-low (q t) {b = pos 10000} (ltZ-yes tt)) (floor-low (t *ℤ t) {b = pos 10000} (ltZ-yes tt)) (y-not-negative below) (w-not-negative t))
@@ -76,7 +76,7 @@ module _ {t : ℤ} (range : InRange t) (below : t <ℤ pos 0) where
   unfolding h
   staged-h-high = (le-by ((y t *ℤ w t) ∷ (floor (y t *ℤ w t) one) ∷ (quartic t) ∷ []) ((v0 :< # 16777216 :* v1 :+ # 16777216) ∷ (v2 :≤ # 100000000 :* (v0 :+ # 22145927)) ∷ []) v2 (# 1677721600000000 :* v1 :+ # 3892314300000000) (hyp 0 ⊕ nat 100000000 ⊗ hyp 1 ⊕ hyp 2) tt (floor-high (y t *ℤ w t) {b = one} (ltZ-yes tt)) staged-product-high)
 
--- s is a stage's floor, x scale times the stage without floors
+-- s is s2, and x scale times s2 without floors
 record QuarticNear (s x : ℤ) : Type 0 where
   low : (scale *ℤ s) ≤ℤ x
   high : (pos 12 *ℤ x) ≤ℤ (pos 12 *ℤ (scale *ℤ s) +ℤ pos 13 *ℤ scale)
@@ -107,7 +107,7 @@ module _ {alpha delta beta : ℕ} (admissible : Admissible alpha delta beta) {t 
   bracket-high = (le-by ((pos 256 *ℤ t) ∷ (pos delta *ℤ q t) ∷ (betaAt beta t *ℤ quartic t) ∷ (s1 delta t) ∷ (s2 beta t) ∷ []) ((# 167772160000 :* v1 :≤ # 26843545600000000000000 :* v3 :+ # 26843545600000000000000) ∷ (# 12 :* v2 :≤ # 12 :* (# 26843545600000000000000 :* v4) :+ # 13 :* # 26843545600000000000000) ∷ []) (# 12 :* (# 26843545600000000000000 :* (v0 :- v3 :- v4))) (# 12 :* (# 26843545600000000000000 :* v0 :- # 167772160000 :* v1 :- v2) :+ # 25 :* # 26843545600000000000000) (hyp 0 ⊕ nat 12 ⊗ hyp 1 ⊕ hyp 2) tt (s1-high delta t) (s2-near (admissible .beta-high) range .high))
 
   -- F is less than 1 below the equation
-  pub F-low : exactF alpha delta beta t <ℤ (perUnit *ℤ (F alpha delta beta t +ℤ pos 1))
+  pub F-low : exactF alpha delta beta t <ℤ (part *ℤ (F alpha delta beta t +ℤ pos 1))
   unfolding F exactF
   F-low =
       let a = pos alpha in
@@ -115,14 +115,14 @@ module _ {alpha delta beta : ℕ} (admissible : Admissible alpha delta beta) {t 
       (lt-by (a ∷ (exactBracket delta (betaAt beta t) t) ∷ g ∷ (floor (a *ℤ g) (pos 62500000)) ∷ []) ((# 0 :≤ v0) ∷ (v1 :≤ # 26843545600000000000000 :* v2) ∷ (v0 :* v2 :< # 62500000 :* v3 :+ # 62500000) ∷ []) (# 1677721600000000000000000000000 :* # 16777216 :+ v0 :* v1) (# 1677721600000000000000000000000 :* (# 16777216 :+ v3 :+ # 1)) (hyp 0 ⊕ nat 26843545600000000000000 ⊗ hyp 3 ⊕ hyp 1 ⊗ hyp 2) tt (natural-not-negative alpha) bracket-low (floor-high (a *ℤ g) {b = pos 62500000} (ltZ-yes tt)))
 
   -- and at most 1/6 above it
-  pub F-high : (pos 6 *ℤ (perUnit *ℤ F alpha delta beta t)) ≤ℤ (pos 6 *ℤ exactF alpha delta beta t +ℤ perUnit)
+  pub F-high : (pos 6 *ℤ (part *ℤ F alpha delta beta t)) ≤ℤ (pos 6 *ℤ exactF alpha delta beta t +ℤ part)
   unfolding F exactF
   F-high =
       let a = pos alpha in
       let g = bracket delta beta t in
       (le-by (a ∷ (exactBracket delta (betaAt beta t) t) ∷ g ∷ (floor (a *ℤ g) (pos 62500000)) ∷ []) ((# 0 :≤ v0) ∷ (v0 :≤ # 5000000) ∷ (# 12 :* (# 26843545600000000000000 :* v2) :≤ # 12 :* v1 :+ # 25 :* # 26843545600000000000000) ∷ (# 62500000 :* v3 :≤ v0 :* v2) ∷ []) (# 6 :* (# 1677721600000000000000000000000 :* (# 16777216 :+ v3))) (# 6 :* (# 1677721600000000000000000000000 :* # 16777216 :+ v0 :* v1) :+ # 1677721600000000000000000000000) (nat 2 ⊗ hyp 0 ⊕ nat 671088640000000000000000 ⊗ hyp 2 ⊕ nat 322122547200000000000000 ⊗ hyp 4 ⊕ hyp 1 ⊗ hyp 3) tt (natural-not-negative alpha) (natural-at-most (admissible .alpha-high)) bracket-high (floor-low (a *ℤ g) {b = pos 62500000} (ltZ-yes tt)))
 
-  near-exact : Distance (whole (pos 2)) (F alpha delta beta t) (exactF alpha delta beta t /ᶠ perUnit)
+  near-exact : Distance (whole (pos 2)) (F alpha delta beta t) (exactF alpha delta beta t /ᶠ part)
   near-exact = record {
     den-above = ltZ-yes tt;
     apart = record {
@@ -131,7 +131,7 @@ module _ {alpha delta beta : ℕ} (admissible : Admissible alpha delta beta) {t 
     };
   }
 
-exact-is-equation : (alpha delta beta : ℕ) (t : ℤ) → (exactF alpha delta beta t /ᶠ perUnit) ≡ᶠ (whole one *ᶠ equationRatio alpha delta beta t)
+exact-is-equation : (alpha delta beta : ℕ) (t : ℤ) → (exactF alpha delta beta t /ᶠ part) ≡ᶠ (whole one *ᶠ equationRatio alpha delta beta t)
 exact-is-equation alpha delta beta t =
     let e = equationRatio alpha delta beta t in
     (ring ((exactF alpha delta beta t) ∷ (e .den) ∷ []) (v0 :* (# 1 :* v1)) (v0 :* v1) tt)

@@ -1,5 +1,5 @@
--- Equation 19's ratio rises with t by at least 12 of 2^24 a unit, to one unit past the range and from any unit before it: delta's part falls
--- by at most 2 of the bracket's 256, and beta's part does not fall.
+-- Equation 19's ratio rises with t by at least 12 parts of 2^24 a unit, up to the second unit behind the range: delta's term takes at most 2
+-- of the 256 that a unit brings, and beta's term, which is taken away, does not rise.
 use Prim.Native.Nat.{ℕ}
 use mathlib.Core.Path.{_≡_, refl, subst}
 use mathlib.Core.List.{[], _∷_}
@@ -14,9 +14,9 @@ use Rattle.thermometer.specs.Rule.{q}
 use Rattle.thermometer.specs.Ranges.{Admissible}
 use Rattle.thermometer.specs.Equations.{betaAt}
 use Rattle.thermometer.proofs.Rises.{q-not-negative, q-falls, square-falls}
-use Rattle.thermometer.proofs.EquationNear.{scale, perUnit, quartic, exactBracket, exactF}
+use Rattle.thermometer.proofs.EquationNear.{scale, part, quartic, exactBracket, exactF}
 
--- ---- beta's part does not rise
+-- ---- beta's term does not rise
 module _ {t : ℤ} (below : t <ℤ pos 0) where
   quartic-not-negative : pos 0 ≤ℤ quartic t
   quartic-not-negative = product-not-negative (q-not-negative below) (square-not-negative t)
@@ -44,11 +44,11 @@ module _ (t : ℤ) (last : t ≤ℤ pos 245761) {alpha delta beta : ℕ} (admiss
   exact-bracket-rises : (exactBracket delta (betaAt beta t) t +ℤ pos 254 *ℤ scale) ≤ℤ exactBracket delta (betaAt beta (t +ℤ pos 1)) (t +ℤ pos 1)
   exact-bracket-rises = (le-by (t ∷ (pos delta *ℤ q t) ∷ (pos delta *ℤ q (t +ℤ pos 1)) ∷ (betaAt beta t *ℤ quartic t) ∷ (betaAt beta (t +ℤ pos 1) *ℤ quartic (t +ℤ pos 1)) ∷ []) ((v2 :≤ v1 :+ # 163846000000) ∷ (v4 :≤ v3) ∷ []) (# 26843545600000000000000 :* (# 256 :* v0) :- # 167772160000 :* v1 :- v3 :+ # 254 :* # 26843545600000000000000) (# 26843545600000000000000 :* (# 256 :* (v0 :+ # 1)) :- # 167772160000 :* v2 :- v4) (hyp 0 ⊕ nat 167772160000 ⊗ hyp 1 ⊕ hyp 2) tt delta-q-rises (quartic-does-not-rise beta t))
 
-  exact-rises-by-one : (exactF alpha delta beta t +ℤ pos 12 *ℤ perUnit) ≤ℤ exactF alpha delta beta (t +ℤ pos 1)
+  exact-rises-by-one : (exactF alpha delta beta t +ℤ pos 12 *ℤ part) ≤ℤ exactF alpha delta beta (t +ℤ pos 1)
   unfolding exactF
   exact-rises-by-one = (le-by ((pos alpha) ∷ (exactBracket delta (betaAt beta t) t) ∷ (exactBracket delta (betaAt beta (t +ℤ pos 1)) (t +ℤ pos 1)) ∷ []) ((# 3000000 :≤ v0) ∷ (v1 :+ # 254 :* # 26843545600000000000000 :≤ v2) ∷ []) (# 1677721600000000000000000000000 :* # 16777216 :+ v0 :* v1 :+ # 12 :* # 1677721600000000000000000000000) (# 1677721600000000000000000000000 :* # 16777216 :+ v0 :* v2) (hyp 0 ⊕ nat 6818260582400000000000000 ⊗ hyp 1 ⊕ nat 3000000 ⊗ hyp 2 ⊕ hyp 1 ⊗ hyp 2) tt (natural-at-most (admissible .alpha-low)) exact-bracket-rises)
 
-pub exact-rises : {alpha delta beta : ℕ} → Admissible alpha delta beta → (t : ℤ) {next : ℤ} → t +ℤ pos 1 ≡ next → next ≤ℤ pos 245762 → (exactF alpha delta beta t +ℤ pos 12 *ℤ perUnit) ≤ℤ exactF alpha delta beta next
+pub exact-rises : {alpha delta beta : ℕ} → Admissible alpha delta beta → (t : ℤ) {next : ℤ} → t +ℤ pos 1 ≡ next → next ≤ℤ pos 245762 → (exactF alpha delta beta t +ℤ pos 12 *ℤ part) ≤ℤ exactF alpha delta beta next
 exact-rises {alpha} {delta} {beta} admissible t {next} step last =
-    subst (λ u. (exactF alpha delta beta t +ℤ pos 12 *ℤ perUnit) ≤ℤ exactF alpha delta beta u) step
+    subst (λ u. (exactF alpha delta beta t +ℤ pos 12 *ℤ part) ≤ℤ exactF alpha delta beta u) step
     (exact-rises-by-one t (le-by (t ∷ next ∷ []) ((v0 :+ # 1 :≡ v1) ∷ (v1 :≤ # 245762) ∷ []) v0 (# 245761) (hyp 0 ⊕ hyp 1 ⊕ hyp 2) tt step last) admissible)
