@@ -1,4 +1,4 @@
-//! Equations 18 and 19 as the ATMS document has them, without any rounding, and what is promised of a thermometer
+//! Equations 18 and 19 as document 004 has them, without any rounding, and what is promised of a thermometer
 //! by them (request W7).
 
 use super::thermometer::{resistance_ratio, Coefficients, Reading};

@@ -45,7 +45,7 @@ use Rattle.product.specs.Scenes.{Deliver, sceneIn}
 use Rattle.product.proofs.SceneLaws.{InUnitsBy}
 use Rattle.calibrator.specs.declared.Calibrator.{Calibrator}
 use Rattle.calibrator.specs.Refusals.{verdict, Reply, delivered, refused}
-use Rattle.calibrator.specs.Feeding.{Feed, freshOf, verdictIn, stepBy, step, calibratorAfter, AllOfBytes}
+use Rattle.calibrator.specs.Feeding.{Feed, freshOf, verdictIn, stepBy, step, calibratorAfter}
 use Rattle.promise.specs.Roll.{verdictAt}
 use Rattle.promise.specs.Restart.{rolledBy}
 use Rattle.promise.specs.Moments.{meansAt, tnlAt, wordAt, unitsAt, isDelivered}
@@ -367,7 +367,7 @@ module _ (earth : ℕ) (buffer : List ℕ) (room : productSize ≤ length buffer
     unfolding All
     h5-below-h4 = higher-count-higher-t (fed c below) (tt, bench-scan-bytes earth small) 10000 15000 (pos 11166) (pos 565394) (lit< tt) scene-of-h5 (scene-of-h4 c below)
 
-  -- request W7: every thermometer of the bench scan has T 1,118,822, and of the first 0 is bracketed by its counts
+  -- request W7: every thermometer of the bench scan has T 1,118,822, and t = 0 of the first is bracketed by its counts
   pub first-thermometer-bracketed : Bracketed 3850000 1500000 0 (measuredRatio 2000000 2000000 20000 0 20000) (pos 0)
   unfolding All tabulate cells benchTable benchScan instrumentBytes
   first-thermometer-bracketed =

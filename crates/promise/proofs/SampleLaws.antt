@@ -5,7 +5,7 @@ use native.Mathlib.Omega.{arith}
 use mathlib.Core.Path.{_≡_, refl, sym, ap, ap₂, fun-ext, subst, _∙_}
 use native.Mathlib.Decide.{decLt}
 use mathlib.Core.List.{List, [], _∷_, _++_}
-use mathlib.Core.Bool.{Bool, true, false, _&&_, cond, false≢true}
+use mathlib.Core.Bool.{Bool, true, false, cond, false≢true}
 use lib.Dec.{eqb, ltb}
 use lib.ListN.{length, getD, List·getD-append}
 use lib.Seq.{getD-append-add}
@@ -29,11 +29,11 @@ use Rattle.acceptance.specs.Counts.{Sides, none, overlap, fourCounts, withinLim
 use Rattle.acceptance.proofs.Chosen.{chosen-at-most, length-four-counts}
 use Rattle.table.specs.declared.Limits.{Limits}
 use Rattle.record.specs.Record.{scanNumber, instrument, sideValue, channelPart}
-use Rattle.acceptance.specs.Accepted.{AcceptedSamples, acceptedSamples, acceptedCounts, acceptedThermometers, readingAt, kelvin, kelvins, inLimits, passedLimits}
+use Rattle.acceptance.specs.Accepted.{AcceptedSamples, acceptedSamples, acceptedCounts, acceptedThermometers, readingAt, kelvin, kelvins, inLimits}
 use Rattle.acceptance.specs.Kept.{keptSide, keptKelvin, keptScan}
 use Rattle.acceptance.proofs.Kelvin.{kelvin-low}
 use Rattle.acceptance.proofs.KeptKelvin.{kept-of-chosen}
-use Rattle.acceptance.proofs.Targets.{goodFlags, length-kelvins}
+use Rattle.acceptance.proofs.Targets.{goodFlags, length-kelvins, flagged-in-limits, kelvin-at}
 use Rattle.window.specs.Sums.{weightSum, valueSum, thermometerWeights, thermometerSum, meansFrom, meansOf}
 use Rattle.window.specs.Ages.{noScan}
 use Rattle.calibrator.specs.Feeding.{keptBy}
@@ -85,10 +85,6 @@ kelvin-above : (s : Settings) (r : Result) → ((t : _) → r ≡ units t → In
 kelvin-above s (units t) range passed e = let low = kelvin-low (range t refl) in omega arith
 kelvin-above s (refused n) range passed e = false≢true passed
 
-first-of-both : (a b : Bool) → (a && b) ≡ true → a ≡ true
-first-of-both true b e = refl
-first-of-both false b e = absurd (false≢true e)
-
 module _ (s : Settings) (value : List ℕ) (target : Target) where
   abbrev flags : List Bool
   flags = goodFlags s value target
@@ -97,14 +93,9 @@ module _ (s : Settings) (value : List ℕ) (target : Target) where
   values = kelvins s value target
 
   flagged-above : (i : ℕ) → i < sizeOf target → getD flags i false ≡ true → getD values i 0 ≡ 0 → ⊥
-  unfolding kelvins passedLimits good
   flagged-above i inside flag is =
-      let here : good values (passedLimits s value target) (s .dT) i ≡ true =
-      sym (getD-tabulate (good values (passedLimits s value target) (s .dT)) (length values) i false (omega (arith, length-kelvins s value target))) ∙ flag in
-      let passed : getD (passedLimits s value target) i false ≡ true = first-of-both _ _ here in
-      kelvin-above s (readingAt s value (firstOf target + i)) (λ t e. reading-units-in-range _ _ _ _ _ _ _ _ e)
-      (sym (getD-tabulate (λ i. inLimits s (readingAt s value (firstOf target + i))) (sizeOf target) i false inside) ∙ passed)
-      (sym (getD-tabulate (λ i. kelvin (readingAt s value (firstOf target + i))) (sizeOf target) i 0 inside) ∙ is)
+      kelvin-above s (readingAt s value (firstOf target + i)) (λ t e. reading-units-in-range _ _ _ _ _ _ _ _ e) (flagged-in-limits s value target i inside flag)
+      (kelvin-at s value target i inside ∙ is)
 
   weight-at : (flag : Bool) (v p : ℕ) → (flag ≡ true → v ≡ 0 → ⊥) → cond flag p 0 ≡ cond (eqb (cond flag v 0) 0) 0 p
   weight-at true v p above = sym (ap (λ (b : Bool). cond b 0 p) (ne-eqb v 0 (above refl)))

@@ -1,5 +1,5 @@
--- Request W7, about lists of feeds: the T of every accepted thermometer of every record that counts is bracketed by that record's own counts.
--- It is these T that the means of every later scan take.
+-- Request W7, about lists of feeds: the T of every accepted thermometer of every record on the roll is bracketed by that record's own counts.
+-- The warm means are formed of these T.
 use mathlib.Core.List.{List, []}
 use Rattle.lists.specs.All.{All}
 use Rattle.table.specs.declared.Table.{Table}

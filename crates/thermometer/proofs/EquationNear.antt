@@ -1,5 +1,5 @@
 -- F is near 2^24 times equation 19's ratio: over one denominator the equation is F without the floors, and each floor takes less than 1 of
--- its stage. So F is less than 1 below, by its own floor, and at most 1/6 above, by those of s1 and s2.
+-- its stage. So F is less than 1 below, by its own floor, and at most 1/6 above, by those before it.
 use Prim.Native.Nat.{ℕ, _≤_}
 use mathlib.Core.Path.{_≡_, refl, sym, _∙_}
 use mathlib.Core.List.{[], _∷_}
@@ -59,7 +59,7 @@ unfolding s1
 s1-high delta t = (le-by ((pos delta *ℤ q t) ∷ (floor (pos delta *ℤ q t) (pos 160000000000)) ∷ []) ((v0 :< # 160000000000 :* v1 :+ # 160000000000) ∷ []) (# 167772160000 :* v0) (# 26843545600000000000000 :* v1 :+ # 26843545600000000000000) (hyp 0 ⊕ nat 167772160000 ⊗ hyp 1) tt (floor-high (pos delta *ℤ q t) {b = pos 160000000000} (ltZ-yes tt)))
 
 module _ {t : ℤ} (range : InRange t) (below : t <ℤ pos 0) where
-  -- between 10^8 times y × w and what the floors of y and w take more
+  -- it is from 10^8 × y × w to 10^8 × (y × w + 22,145,927)
   staged-product-low : (pos 100000000 *ℤ (y t *ℤ w t)) ≤ℤ quartic t
   unfolding y w
   staged-product-low = (le-by ((q t) ∷ (t *ℤ t) ∷ (floor (q t) (pos 10000)) ∷ (floor (t *ℤ t) (pos 10000)) ∷ []) ((# 10000 :* v2 :≤ v0) ∷ (# 10000 :* v3 :≤ v1) ∷ (# 0 :≤ v2) ∷ (# 0 :≤ v3) ∷ []) (# 100000000 :* (v2 :* v3)) (v0 :* v1) (hyp 0 ⊕ hyp 1 ⊗ hyp 2 ⊕ nat 10000 ⊗ hyp 1 ⊗ hyp 4 ⊕ nat 10000 ⊗ hyp 2 ⊗ hyp 3) tt (floor-low (q t) {b = pos 10000} (ltZ-yes tt)) (floor-low (t *ℤ t) {b = pos 10000} (ltZ-yes tt)) (y-not-negative below) (w-not-negative t))

@@ -1,4 +1,4 @@
--- Equation 19's ratio rises with t by at least 12 parts of 2^24 a unit, up to the second unit behind the range: delta's term takes at most 2
+-- Equation 19's ratio rises with t by at least 12 parts of 2^-24 a unit, up to the second unit above the range: delta's term takes at most 2
 -- of the 256 that a unit brings, and beta's term, which is taken away, does not rise.
 use Prim.Native.Nat.{ℕ}
 use mathlib.Core.Path.{_≡_, refl, subst}

@@ -1,4 +1,4 @@
--- Rows that show what the equation and the bracket say. At 0 °C the ratio is 1, at 100 °C alpha alone counts, and at -100 °C delta and beta do.
+-- Rows that show what the equation and the bracket say. At 0 °C the ratio is 1, at 100 °C alpha alone counts, and at -100 °C delta and beta count too.
 -- A t itself won't do for t - 1 of the bracket, nor t + 1 for t + 2; and both ends of the range are answered, so that t - 1 and t + 2 do lie
 -- outside it.
 use Prim.Native.Nat.{ℕ}
