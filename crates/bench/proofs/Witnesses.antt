@@ -373,4 +373,4 @@ module _ (earth : ℕ) (buffer : List ℕ) (room : productSize ≤ length buffer
   first-thermometer-bracketed =
       let scan = benchScan earth in
       let claim = fed-record-says fed-thermometers-bracketed (record { bytes = benchTable }) [] (record { scan = scan; buffer = buffer }) fed-passes in
-      subst (λ (samples : AcceptedSamples). All (SampleBracketed benchSettings scan Kav) (samples .kav)) (bench-samples earth) (claim .kav) .0
+      subst (λ (samples : AcceptedSamples). All (SampleBracketed benchSettings scan Kav) (samples .kav)) (bench-samples earth) (claim Kav) .0

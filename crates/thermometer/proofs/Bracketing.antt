@@ -57,8 +57,8 @@ module _ {alpha delta beta : ℕ} (admissible : Admissible alpha delta beta) {m 
           = at-most-antisym (le-by (t ∷ []) ((# 245760 :< v0 :+ # 1) ∷ []) (# 245760) v0 (hyp 0 ⊕ hyp 1) tt outside) (answer .inside .high) in
           exact-next-outside (subst (λ u. m ≤ℤ F alpha delta beta u) last within)
 
-  exact-behind : m ≤ℤ F alpha delta beta highest → (part *ℤ (m +ℤ pos 1)) ≤ℤ exact (t +ℤ pos 2)
-  exact-behind within = (le-by ((exact (t +ℤ pos 2)) ∷ (exact (t +ℤ pos 1)) ∷ m ∷ []) ((v1 :+ # 12 :* # 1677721600000000000000000000000 :≤ v0) ∷ (# 1677721600000000000000000000000 :* v2 :≤ v1) ∷ []) (# 1677721600000000000000000000000 :* (v2 :+ # 1)) v0 (hyp 0 ⊕ hyp 1 ⊕ hyp 2) tt (exact-rises admissible (t +ℤ pos 1) (ring (t ∷ []) (v0 :+ # 1 :+ # 1) (v0 :+ # 2) tt) second-at-most-past) (exact-next within))
+  exact-second : m ≤ℤ F alpha delta beta highest → (part *ℤ (m +ℤ pos 1)) ≤ℤ exact (t +ℤ pos 2)
+  exact-second within = (le-by ((exact (t +ℤ pos 2)) ∷ (exact (t +ℤ pos 1)) ∷ m ∷ []) ((v1 :+ # 12 :* # 1677721600000000000000000000000 :≤ v0) ∷ (# 1677721600000000000000000000000 :* v2 :≤ v1) ∷ []) (# 1677721600000000000000000000000 :* (v2 :+ # 1)) v0 (hyp 0 ⊕ hyp 1 ⊕ hyp 2) tt (exact-rises admissible (t +ℤ pos 1) (ring (t ∷ []) (v0 :+ # 1 :+ # 1) (v0 :+ # 2) tt) second-at-most-past) (exact-next within))
 
 -- ---- the measured ratio n / d: M is the floor of 2^24 n / d
 pub answers-bracketed : AnswersBracketed
@@ -71,5 +71,5 @@ answers-bracketed rPam r0 alpha delta beta pam offset count t e =
     let d-above : pos 0 <ℤ d = product-above (met .pam-above) (met .r0-above) in
     record {
       below = below-same-left (equation-is alpha delta beta (t -ℤ pos 1)) (record { left-above = ltZ-yes tt; right-above = d-above; below = (lt-by ((exactF alpha delta beta (t -ℤ pos 1)) ∷ d ∷ n ∷ m ∷ []) ((# 0 :< v1) ∷ (v0 :< # 1677721600000000000000000000000 :* v3) ∷ (v1 :* v3 :≤ v2 :* # 16777216) ∷ []) (v0 :* v1) (v2 :* (# 1677721600000000000000000000000 :* # 16777216)) (hyp 0 ⊕ hyp 1 ⊕ hyp 2 ⊕ nat 1677721600000000000000000000000 ⊗ hyp 3 ⊕ hyp 1 ⊗ hyp 2) tt d-above (exact-before (met .admissible) (met .greatest)) (floor-low (n *ℤ one) d-above)) });
-      above = below-same-right (equation-is alpha delta beta (t +ℤ pos 2)) (record { left-above = d-above; right-above = ltZ-yes tt; below = (lt-by ((exactF alpha delta beta (t +ℤ pos 2)) ∷ d ∷ n ∷ m ∷ []) ((# 0 :< v1) ∷ (# 1677721600000000000000000000000 :* (v3 :+ # 1) :≤ v0) ∷ (v2 :* # 16777216 :< v1 :* v3 :+ v1) ∷ []) (v2 :* (# 1677721600000000000000000000000 :* # 16777216)) (v0 :* v1) (hyp 0 ⊕ hyp 2 ⊕ nat 1677721600000000000000000000000 ⊗ hyp 3 ⊕ hyp 1 ⊗ hyp 2) tt d-above (exact-behind (met .admissible) (met .greatest) (met .within)) (floor-high (n *ℤ one) d-above)) });
+      above = below-same-right (equation-is alpha delta beta (t +ℤ pos 2)) (record { left-above = d-above; right-above = ltZ-yes tt; below = (lt-by ((exactF alpha delta beta (t +ℤ pos 2)) ∷ d ∷ n ∷ m ∷ []) ((# 0 :< v1) ∷ (# 1677721600000000000000000000000 :* (v3 :+ # 1) :≤ v0) ∷ (v2 :* # 16777216 :< v1 :* v3 :+ v1) ∷ []) (v2 :* (# 1677721600000000000000000000000 :* # 16777216)) (v0 :* v1) (hyp 0 ⊕ hyp 2 ⊕ nat 1677721600000000000000000000000 ⊗ hyp 3 ⊕ hyp 1 ⊗ hyp 2) tt d-above (exact-second (met .admissible) (met .greatest) (met .within)) (floor-high (n *ℤ one) d-above)) });
     }

@@ -34,12 +34,12 @@ abbrev pub quartic : ℤ → ℤ
 quartic t = q t *ℤ (t *ℤ t)
 
 -- scale times 256t - s1 - s2 without floors
-abbrev pub exactBracket : (delta : ℕ) (beta t : ℤ) → ℤ
-exactBracket delta beta t = scale *ℤ (pos 256 *ℤ t) -ℤ pos 167772160000 *ℤ (pos delta *ℤ q t) -ℤ beta *ℤ quartic t
+abbrev pub exactBeforeAlpha : (delta : ℕ) (beta t : ℤ) → ℤ
+exactBeforeAlpha delta beta t = scale *ℤ (pos 256 *ℤ t) -ℤ pos 167772160000 *ℤ (pos delta *ℤ q t) -ℤ beta *ℤ quartic t
 
 -- a part times F without floors
 unfoldable pub exactF : (alpha delta beta : ℕ) → ℤ → ℤ
-exactF alpha delta beta t = part *ℤ one +ℤ pos alpha *ℤ exactBracket delta (betaAt beta t) t
+exactF alpha delta beta t = part *ℤ one +ℤ pos alpha *ℤ exactBeforeAlpha delta (betaAt beta t) t
 
 pub equation-is : (alpha delta beta : ℕ) (t : ℤ) → Equal (equationRatio alpha delta beta t) (exactF alpha delta beta t /ᶠ (part *ℤ one))
 unfolding equationRatio exactF q
@@ -100,11 +100,11 @@ s2-near {beta} {t} beta-high range = quartic-near-by beta-high range (ltZ t (pos
 -- ---- F
 module _ {alpha delta beta : ℕ} (admissible : Admissible alpha delta beta) {t : ℤ} (range : InRange t) where
   -- all stages before alpha take at most 25/12
-  pub bracket-low : exactBracket delta (betaAt beta t) t ≤ℤ (scale *ℤ bracket delta beta t)
-  bracket-low = (le-by ((pos 256 *ℤ t) ∷ (pos delta *ℤ q t) ∷ (betaAt beta t *ℤ quartic t) ∷ (s1 delta t) ∷ (s2 beta t) ∷ []) ((# 26843545600000000000000 :* v3 :≤ # 167772160000 :* v1) ∷ (# 26843545600000000000000 :* v4 :≤ v2) ∷ []) (# 26843545600000000000000 :* v0 :- # 167772160000 :* v1 :- v2) (# 26843545600000000000000 :* (v0 :- v3 :- v4)) (hyp 0 ⊕ hyp 1 ⊕ hyp 2) tt (s1-low delta t) (s2-near (admissible .beta-high) range .low))
+  pub before-alpha-low : exactBeforeAlpha delta (betaAt beta t) t ≤ℤ (scale *ℤ bracket delta beta t)
+  before-alpha-low = (le-by ((pos 256 *ℤ t) ∷ (pos delta *ℤ q t) ∷ (betaAt beta t *ℤ quartic t) ∷ (s1 delta t) ∷ (s2 beta t) ∷ []) ((# 26843545600000000000000 :* v3 :≤ # 167772160000 :* v1) ∷ (# 26843545600000000000000 :* v4 :≤ v2) ∷ []) (# 26843545600000000000000 :* v0 :- # 167772160000 :* v1 :- v2) (# 26843545600000000000000 :* (v0 :- v3 :- v4)) (hyp 0 ⊕ hyp 1 ⊕ hyp 2) tt (s1-low delta t) (s2-near (admissible .beta-high) range .low))
 
-  pub bracket-high : (pos 12 *ℤ (scale *ℤ bracket delta beta t)) ≤ℤ (pos 12 *ℤ exactBracket delta (betaAt beta t) t +ℤ pos 25 *ℤ scale)
-  bracket-high = (le-by ((pos 256 *ℤ t) ∷ (pos delta *ℤ q t) ∷ (betaAt beta t *ℤ quartic t) ∷ (s1 delta t) ∷ (s2 beta t) ∷ []) ((# 167772160000 :* v1 :≤ # 26843545600000000000000 :* v3 :+ # 26843545600000000000000) ∷ (# 12 :* v2 :≤ # 12 :* (# 26843545600000000000000 :* v4) :+ # 13 :* # 26843545600000000000000) ∷ []) (# 12 :* (# 26843545600000000000000 :* (v0 :- v3 :- v4))) (# 12 :* (# 26843545600000000000000 :* v0 :- # 167772160000 :* v1 :- v2) :+ # 25 :* # 26843545600000000000000) (hyp 0 ⊕ nat 12 ⊗ hyp 1 ⊕ hyp 2) tt (s1-high delta t) (s2-near (admissible .beta-high) range .high))
+  pub before-alpha-high : (pos 12 *ℤ (scale *ℤ bracket delta beta t)) ≤ℤ (pos 12 *ℤ exactBeforeAlpha delta (betaAt beta t) t +ℤ pos 25 *ℤ scale)
+  before-alpha-high = (le-by ((pos 256 *ℤ t) ∷ (pos delta *ℤ q t) ∷ (betaAt beta t *ℤ quartic t) ∷ (s1 delta t) ∷ (s2 beta t) ∷ []) ((# 167772160000 :* v1 :≤ # 26843545600000000000000 :* v3 :+ # 26843545600000000000000) ∷ (# 12 :* v2 :≤ # 12 :* (# 26843545600000000000000 :* v4) :+ # 13 :* # 26843545600000000000000) ∷ []) (# 12 :* (# 26843545600000000000000 :* (v0 :- v3 :- v4))) (# 12 :* (# 26843545600000000000000 :* v0 :- # 167772160000 :* v1 :- v2) :+ # 25 :* # 26843545600000000000000) (hyp 0 ⊕ nat 12 ⊗ hyp 1 ⊕ hyp 2) tt (s1-high delta t) (s2-near (admissible .beta-high) range .high))
 
   -- F is less than 1 below the equation
   pub F-low : exactF alpha delta beta t <ℤ (part *ℤ (F alpha delta beta t +ℤ pos 1))
@@ -112,7 +112,7 @@ module _ {alpha delta beta : ℕ} (admissible : Admissible alpha delta beta) {t 
   F-low =
       let a = pos alpha in
       let g = bracket delta beta t in
-      (lt-by (a ∷ (exactBracket delta (betaAt beta t) t) ∷ g ∷ (floor (a *ℤ g) (pos 62500000)) ∷ []) ((# 0 :≤ v0) ∷ (v1 :≤ # 26843545600000000000000 :* v2) ∷ (v0 :* v2 :< # 62500000 :* v3 :+ # 62500000) ∷ []) (# 1677721600000000000000000000000 :* # 16777216 :+ v0 :* v1) (# 1677721600000000000000000000000 :* (# 16777216 :+ v3 :+ # 1)) (hyp 0 ⊕ nat 26843545600000000000000 ⊗ hyp 3 ⊕ hyp 1 ⊗ hyp 2) tt (natural-not-negative alpha) bracket-low (floor-high (a *ℤ g) {b = pos 62500000} (ltZ-yes tt)))
+      (lt-by (a ∷ (exactBeforeAlpha delta (betaAt beta t) t) ∷ g ∷ (floor (a *ℤ g) (pos 62500000)) ∷ []) ((# 0 :≤ v0) ∷ (v1 :≤ # 26843545600000000000000 :* v2) ∷ (v0 :* v2 :< # 62500000 :* v3 :+ # 62500000) ∷ []) (# 1677721600000000000000000000000 :* # 16777216 :+ v0 :* v1) (# 1677721600000000000000000000000 :* (# 16777216 :+ v3 :+ # 1)) (hyp 0 ⊕ nat 26843545600000000000000 ⊗ hyp 3 ⊕ hyp 1 ⊗ hyp 2) tt (natural-not-negative alpha) before-alpha-low (floor-high (a *ℤ g) {b = pos 62500000} (ltZ-yes tt)))
 
   -- and at most 1/6 above it
   pub F-high : (pos 6 *ℤ (part *ℤ F alpha delta beta t)) ≤ℤ (pos 6 *ℤ exactF alpha delta beta t +ℤ part)
@@ -120,7 +120,7 @@ module _ {alpha delta beta : ℕ} (admissible : Admissible alpha delta beta) {t 
   F-high =
       let a = pos alpha in
       let g = bracket delta beta t in
-      (le-by (a ∷ (exactBracket delta (betaAt beta t) t) ∷ g ∷ (floor (a *ℤ g) (pos 62500000)) ∷ []) ((# 0 :≤ v0) ∷ (v0 :≤ # 5000000) ∷ (# 12 :* (# 26843545600000000000000 :* v2) :≤ # 12 :* v1 :+ # 25 :* # 26843545600000000000000) ∷ (# 62500000 :* v3 :≤ v0 :* v2) ∷ []) (# 6 :* (# 1677721600000000000000000000000 :* (# 16777216 :+ v3))) (# 6 :* (# 1677721600000000000000000000000 :* # 16777216 :+ v0 :* v1) :+ # 1677721600000000000000000000000) (nat 2 ⊗ hyp 0 ⊕ nat 671088640000000000000000 ⊗ hyp 2 ⊕ nat 322122547200000000000000 ⊗ hyp 4 ⊕ hyp 1 ⊗ hyp 3) tt (natural-not-negative alpha) (natural-at-most (admissible .alpha-high)) bracket-high (floor-low (a *ℤ g) {b = pos 62500000} (ltZ-yes tt)))
+      (le-by (a ∷ (exactBeforeAlpha delta (betaAt beta t) t) ∷ g ∷ (floor (a *ℤ g) (pos 62500000)) ∷ []) ((# 0 :≤ v0) ∷ (v0 :≤ # 5000000) ∷ (# 12 :* (# 26843545600000000000000 :* v2) :≤ # 12 :* v1 :+ # 25 :* # 26843545600000000000000) ∷ (# 62500000 :* v3 :≤ v0 :* v2) ∷ []) (# 6 :* (# 1677721600000000000000000000000 :* (# 16777216 :+ v3))) (# 6 :* (# 1677721600000000000000000000000 :* # 16777216 :+ v0 :* v1) :+ # 1677721600000000000000000000000) (nat 2 ⊗ hyp 0 ⊕ nat 671088640000000000000000 ⊗ hyp 2 ⊕ nat 322122547200000000000000 ⊗ hyp 4 ⊕ hyp 1 ⊗ hyp 3) tt (natural-not-negative alpha) (natural-at-most (admissible .alpha-high)) before-alpha-high (floor-low (a *ℤ g) {b = pos 62500000} (ltZ-yes tt)))
 
   near-exact : Distance (whole (pos 2)) (F alpha delta beta t) (exactF alpha delta beta t /ᶠ part)
   near-exact = record {

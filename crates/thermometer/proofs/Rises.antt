@@ -63,20 +63,24 @@ module _ {t : ℤ} (below : t <ℤ pos 0) where
   beta-h-falls : (beta : ℕ) → (pos beta *ℤ h (t +ℤ pos 1)) ≤ℤ (pos beta *ℤ h t)
   beta-h-falls beta = (le-by ((pos beta) ∷ (h t) ∷ (h (t +ℤ pos 1)) ∷ []) ((# 0 :≤ v0) ∷ (v2 :≤ v1) ∷ []) (v0 :* v2) (v0 :* v1) (hyp 0 ⊕ hyp 1 ⊗ hyp 2) tt (natural-not-negative beta) h-falls)
 
--- the two tests are whether t, and whether t + 1, is below 0
-s2-does-not-rise-by : (beta : ℕ) (t : ℤ) (now after : Bool) → ltZ t (pos 0) ≡ now → ltZ (t +ℤ pos 1) (pos 0) ≡ after
-    → cond after (floor (pos beta *ℤ h (t +ℤ pos 1)) (pos 16000000)) (pos 0) ≤ℤ cond now (floor (pos beta *ℤ h t) (pos 16000000)) (pos 0)
-s2-does-not-rise-by beta t true true e f =
-    floor-order (pos beta *ℤ h (t +ℤ pos 1)) (pos beta *ℤ h t) (ltZ-yes tt) (beta-h-falls (ltZ-true e) beta)
-s2-does-not-rise-by beta t true false e f =
-    floor-not-negative (pos beta *ℤ h t) (ltZ-yes tt) (product-not-negative (natural-not-negative beta) (h-not-negative (ltZ-true e)))
-s2-does-not-rise-by beta t false true e f = absurd (clash-by (t ∷ []) ((# 0 :≤ v0) ∷ (v0 :+ # 1 :< # 0) ∷ []) (hyp 0 ⊕ hyp 1) tt (ltZ-false e) (ltZ-true f))
-s2-does-not-rise-by beta t false false e f = ≤ℤ-refl (pos 0)
+-- what counts below 0 alone, is not negative there and does not rise there, does not rise anywhere
+module _ (f : ℤ → ℤ) (not-negative : (t : ℤ) → t <ℤ pos 0 → pos 0 ≤ℤ f t) (falls : (t : ℤ) → t <ℤ pos 0 → f (t +ℤ pos 1) ≤ℤ f t) where
+  -- the two tests are whether t, and whether t + 1, is below 0
+  by-tests : (t : ℤ) (now after : Bool) → ltZ t (pos 0) ≡ now → ltZ (t +ℤ pos 1) (pos 0) ≡ after → cond after (f (t +ℤ pos 1)) (pos 0) ≤ℤ cond now (f t) (pos 0)
+  by-tests t true true e g = falls t (ltZ-true e)
+  by-tests t true false e g = not-negative t (ltZ-true e)
+  by-tests t false true e g = absurd (clash-by (t ∷ []) ((# 0 :≤ v0) ∷ (v0 :+ # 1 :< # 0) ∷ []) (hyp 0 ⊕ hyp 1) tt (ltZ-false e) (ltZ-true g))
+  by-tests t false false e g = ≤ℤ-refl (pos 0)
 
--- across 0 too
+  pub counted-below-zero-does-not-rise : (t : ℤ) → cond (ltZ (t +ℤ pos 1) (pos 0)) (f (t +ℤ pos 1)) (pos 0) ≤ℤ cond (ltZ t (pos 0)) (f t) (pos 0)
+  counted-below-zero-does-not-rise t = by-tests t (ltZ t (pos 0)) (ltZ (t +ℤ pos 1) (pos 0)) refl refl
+
 s2-does-not-rise : (beta : ℕ) (t : ℤ) → s2 beta (t +ℤ pos 1) ≤ℤ s2 beta t
 unfolding s2
-s2-does-not-rise beta t = s2-does-not-rise-by beta t (ltZ t (pos 0)) (ltZ (t +ℤ pos 1) (pos 0)) refl refl
+s2-does-not-rise beta t =
+    counted-below-zero-does-not-rise (λ u. floor (pos beta *ℤ h u) (pos 16000000))
+    (λ u below. floor-not-negative (pos beta *ℤ h u) (ltZ-yes tt) (product-not-negative (natural-not-negative beta) (h-not-negative below)))
+    (λ u below. floor-order (pos beta *ℤ h (u +ℤ pos 1)) (pos beta *ℤ h u) (ltZ-yes tt) (beta-h-falls below beta)) t
 
 -- ---- from t to t + 1
 module _ (t : ℤ) (next : InRange (t +ℤ pos 1)) where
