@@ -14,9 +14,9 @@ use Rattle.record.specs.Record.{scanNumber, earthCounts, shelfTemperatures}
 use Rattle.nonlinearity.specs.Interpolation.{abovePair, unroundedTnl, tnlOf}
 use Rattle.window.specs.Ages.{noScan, windowOf, shifted, windowAfter}
 use Rattle.window.specs.Sums.{weightSum, valueSum, thermometerWeights, thermometerSum, meansFrom}
-use Rattle.window.specs.Means.{flagOf, constantsOf, stateOf}
+use Rattle.window.specs.Means.{flagOf, constantsOf, channelStateOf}
 use Rattle.scene.specs.Scene.{sceneOf, unbiased}
-use Rattle.product.specs.Scenes.{sceneIn, delivered}
+use Rattle.product.specs.Scenes.{sceneIn, sceneDelivered}
 use Rattle.product.specs.Product.{productOf, deliveredCount, productSize}
 use Rattle.calibrator.specs.Refusals.{delivered as accepted}
 use Rattle.calibrator.specs.Feeding.{keptBy, nextChannels, verdictIn, step}
@@ -27,10 +27,10 @@ use Rattle.bench.proofs.FirstFeed.{deliversT, states-by-kept, Gives, fi
 
 -- the channels of what the bench scan keeps
 pub channels-of-kept : (scan : List ℕ) → scanNumber scan ≡ 7 → shelfTemperatures scan ≡ shelfBytes → keptBy benchSettings scan ≡ benchKept → nextChannels benchCalibrator scan ≡ replicate channels benchChannel
-unfolding benchTable shelfBytes windowOf windowAfter shifted noScan cells tabulate stateOf flagOf constantsOf tnlOf unroundedTnl abovePair meansFrom weightSum valueSum thermometerWeights thermometerSum sum r floor
+unfolding benchTable shelfBytes windowOf windowAfter shifted noScan cells tabulate channelStateOf flagOf constantsOf tnlOf unroundedTnl abovePair meansFrom weightSum valueSum thermometerWeights thermometerSum sum r floor
 channels-of-kept scan number shelves kept = states-by-kept scan benchKept number shelves kept
 
-pub scene-delivered : delivered (sceneIn unbiased benchChannel 15000) ≡ true
+pub scene-delivered : sceneDelivered (sceneIn unbiased benchChannel 15000) ≡ true
 unfolding sceneIn sceneOf r floor
 scene-delivered = refl
 

@@ -31,7 +31,7 @@ abbrev pub tcOf : Corrections → ℤ
 tcOf k = pos (11166 + k .rj + k .sl)
 
 abbrev pub riseOf : Means → Corrections → ℤ
-riseOf m k = r (pos (m .weighted)) (pos (m .weights)) +ℤ k .b -ℤ tcOf k
+riseOf m k = r (pos (m .sumVPT)) (pos (m .sumVP)) +ℤ k .b -ℤ tcOf k
 
 -- Tw is the same for both targets
 pub rise-of-target : (target : Target) → riseOf (benchMeans target) benchRow ≡ pos 1107656
@@ -45,7 +45,7 @@ module _ (earth c i : ℕ) (below : c < channels) (inside : i < positions) where
 
   n-is : benchN earth c i ≡ nOf earth
   n-is =
-      ap₂ (λ (m : Means) (count : ℕ). N (pos (m .ww)) (pos (m .wc)) (pos (m .ac)) (pos count))
+      ap₂ (λ (m : Means) (count : ℕ). N (pos (m .Ww)) (pos (m .Wc)) (pos (m .Ac)) (pos count))
       (bench-means earth c below) (earth-count earth c i below inside)
 
   t-is : benchT earth c i ≡ tOf (nOf earth)

@@ -29,7 +29,7 @@ use Rattle.table.specs.Opening.{opening, AcceptedTable}
 use Rattle.table.proofs.OpeningLaws.{accepted-ranges}
 use Rattle.acceptance.specs.declared.Scan.{Scan}
 use Rattle.record.specs.Record.{instrument, sideValue, channelPart, earthCounts, earthPart, earthSize}
-use Rattle.acceptance.specs.Accepted.{readingAt, kelvin, inLimits, kelvins, passedLimits, acceptedThermometers, acceptedCounts, AcceptedSamples, acceptedSamples}
+use Rattle.acceptance.specs.Accepted.{readingAt, inKelvin, inLimits, kelvins, passedLimits, acceptedThermometers, acceptedCounts, AcceptedSamples, acceptedSamples}
 use Rattle.acceptance.specs.Kept.{keptScan}
 use Rattle.samples.specs.Good.{Sample, differs, good, chosenTo, goodSamples, atLeast}
 use Rattle.acceptance.specs.Counts.{Sides, fourCounts, withinLimits, withoutOverlap, acceptedSides}
@@ -94,7 +94,7 @@ accepted-of-target : (target : Target) → acceptedThermometers benchSettings in
 unfolding acceptedThermometers kelvins passedLimits benchTable
 accepted-of-target target =
     ap₂ (λ (values : List ℕ) (passed : List Bool). atLeast (benchSettings .least target) (goodSamples values passed (benchSettings .dT)))
-    (row-of-target kelvin target) (row-of-target (inLimits benchSettings) target)
+    (row-of-target inKelvin target) (row-of-target (inLimits benchSettings) target)
 
 accepted-thermometers : (target : Target) → acceptedThermometers benchSettings instrumentBytes target ≡ samplesAt (sizeOf target) 1118822
 unfolding benchTable tabulate good differs count chosenTo
@@ -121,7 +121,7 @@ benchKept = record { warm = replicate channels 240001; cold = replicate channels
 
 -- eight or seven thermometers with p = 1; one scan with weight 1
 abbrev pub benchMeans : Target → Means
-benchMeans target = record { weights = sizeOf target; weighted = sizeOf target * 1118822; ww = 1; aw = 240000; wc = 1; ac = 120000 }
+benchMeans target = record { sumVP = sizeOf target; sumVPT = sizeOf target * 1118822; Ww = 1; Aw = 240000; Wc = 1; Ac = 120000 }
 
 means-of-kept : (c : ℕ) → c < channels → meansOf benchSettings (λ k. cond (eqb (7 + k) 7) benchKept noScan) c ≡ benchMeans (targetOf c)
 unfolding benchTable tabulate meansFrom weightSum valueSum thermometerWeights thermometerSum sum noScan

@@ -36,7 +36,7 @@ use Rattle.scene.specs.declared.Channel.{Channel}
 use Rattle.window.specs.Ages.{noScan, windowOf, shifted, windowAfter}
 use Rattle.window.specs.Sums.{weightSum, valueSum, thermometerWeights, thermometerSum, meansFrom}
 use Rattle.window.specs.declared.Means.{Means}
-use Rattle.window.specs.Means.{D, flagOf, stateOf}
+use Rattle.window.specs.Means.{D, flagOf, channelStateOf}
 use Rattle.scene.specs.Temperature.{temperature, biased}
 use Rattle.scene.specs.Scene.{kelvin, noConstants, bits, sceneOf, unbiased}
 use Rattle.scene.specs.declared.Scene.the-variants.{Kelvin, Flagged, Outside}
@@ -242,7 +242,7 @@ unfolding benchTable flaggedScan tabulate acceptedCounts fourCounts withinLimits
 flagged-samples = samples-are flaggedScan noCounts refl refl
 
 flagged-gives : Gives flaggedScan flaggedChannel 15000
-unfolding benchTable flaggedScan shelfBytes layoutIsRight fieldIsRight keptScan tabulate windowOf windowAfter shifted noScan cells stateOf flagOf meansFrom weightSum valueSum thermometerWeights thermometerSum sum
+unfolding benchTable flaggedScan shelfBytes layoutIsRight fieldIsRight keptScan tabulate windowOf windowAfter shifted noScan cells channelStateOf flagOf meansFrom weightSum valueSum thermometerWeights thermometerSum sum
 flagged-gives = record {
   long = refl;
   right = refl;
@@ -286,7 +286,7 @@ benchNumbers = pos 11166 ∷ pos 1107656 ∷ pos 400 ∷ pos 120000 ∷ pos 12 �
 
 target-sums-differ : (earth : ℕ) → meansAt benchSettings (benchMoment earth) 0 ≡ meansAt benchSettings (benchMoment earth) 15 → ⊥
 target-sums-differ earth same =
-    let eight-is-seven : _≡_ {A = ℕ} 8 7 = ap (λ (m : Means). m .weights) (sym (bench-means earth 0 (lit< tt)) ∙ same ∙ bench-means earth 15 (lit< tt)) in
+    let eight-is-seven : _≡_ {A = ℕ} 8 7 = ap (λ (m : Means). m .sumVP) (sym (bench-means earth 0 (lit< tt)) ∙ same ∙ bench-means earth 15 (lit< tt)) in
     omega arith
 
 target-flag-zero : (target : Target) → flagOf benchSettings target (benchMeans target) ≡ 0
@@ -317,7 +317,7 @@ module _ (earth : ℕ) (buffer : List ℕ) (room : productSize ≤ length buffer
   fed-numbers-are : (c : ℕ) (below : c < channels) → fedNumbers (fed c below) ≡ benchNumbers
   unfolding rolledBy
   fed-numbers-are c below =
-      ap₂ (λ (m : Means) (k : Corrections). tcOf k ∷ riseOf m k ∷ tnlAt benchSettings (benchMoment earth) c ∷ D m ∷ (pos 12 *ℤ pos (m .wc) *ℤ pos (m .ww)) ∷ (pos (m .ac) *ℤ pos (m .ww)) ∷ [])
+      ap₂ (λ (m : Means) (k : Corrections). tcOf k ∷ riseOf m k ∷ tnlAt benchSettings (benchMoment earth) c ∷ D m ∷ (pos 12 *ℤ pos (m .Wc) *ℤ pos (m .Ww)) ∷ (pos (m .Ac) *ℤ pos (m .Ww)) ∷ [])
       (bench-means earth c below) (bench-row c below)
       ∙ ap₂ (λ (rise tnl : ℤ). pos 11166 ∷ rise ∷ tnl ∷ pos 120000 ∷ pos 12 ∷ pos 120000 ∷ []) (rise-of-target (targetOf c)) (bench-tnl earth c below)
 

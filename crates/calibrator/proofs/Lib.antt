@@ -2,3 +2,4 @@ pub mod Verdicts
 pub mod AcceptedLaws
 pub mod StepLaws
 pub mod SoundLaws
+pub mod Plain

@@ -13,7 +13,7 @@ use lib.IntN.{ℤ, pos, negℤ, _+ℤ_, _-ℤ_, _*ℤ_}
 use lib.Signed.{_≤ℤ_, _<ℤ_, clashℤ}
 use Rattle.integers.specs.Rounding.{floor, isEven, evenOf, r}
 use Rattle.integers.specs.Bounds.{Bounded, WithinHalf}
-use Rattle.integers.specs.NearestEven.{AtHalf, NearestEven}
+use Rattle.integers.specs.NearestEven.{AtHalf, NearestEven, RIsNearestEven}
 use Rattle.integers.proofs.Ring.{_:+_, _:-_, _:*_, opp, ring, #, v0, v1, v2, v3}
 use Rattle.integers.proofs.Naturals.{natural-at-most, at-most-natural, natural-below, natural-not-negative}
 use Rattle.integers.proofs.Certificate.{_:≤_, _:<_, _:≡_, hyp, nat, tim, _⊕_, _⊗_, le-by, lt-by}
@@ -116,6 +116,25 @@ module _ {a b q s : ℤ} (p : pos 0 <ℤ b) (of-q : NearestEven a b q) (of-s : N
 
 pub r-unique : (a : ℤ) {b q : ℤ} → pos 0 <ℤ b → NearestEven a b q → q ≡ r a b
 r-unique a p of-q = at-most-antisym (not-below p (r-nearest-even a p) of-q) (not-below p of-q (r-nearest-even a p))
+
+pub r-is-nearest-even : RIsNearestEven
+r-is-nearest-even a b p = (r-nearest-even a p, λ q of-q. r-unique a p of-q)
+
+-- the statement in plain numbers, which ask nothing but b above 0: r is a half away at most, even where it is exactly a half away, and a whole number
+-- that is both is r
+pub r-is-nearest-even-says : RIsNearestEven → (a b : ℤ) → pos 0 <ℤ b
+    → (negℤ b ≤ℤ (pos 2 *ℤ (b *ℤ r a b -ℤ a))) × ((pos 2 *ℤ (b *ℤ r a b -ℤ a)) ≤ℤ b)
+    × (pos 2 *ℤ (b *ℤ r a b -ℤ a) ≡ b → isEven (r a b) ≡ true) × (pos 2 *ℤ (b *ℤ r a b -ℤ a) ≡ negℤ b → isEven (r a b) ≡ true)
+    × ((q : ℤ) → negℤ b ≤ℤ (pos 2 *ℤ (b *ℤ q -ℤ a)) → (pos 2 *ℤ (b *ℤ q -ℤ a)) ≤ℤ b
+    → (pos 2 *ℤ (b *ℤ q -ℤ a) ≡ b → isEven q ≡ true) → (pos 2 *ℤ (b *ℤ q -ℤ a) ≡ negℤ b → isEven q ≡ true) → q ≡ r a b)
+r-is-nearest-even-says law a b p =
+    let is = law a b p .0 in (
+      is .near .twice .low,
+      is .near .twice .high,
+      λ at. is .even (inl at),
+      λ at. is .even (inr at),
+      λ q low high above below. law a b p .1 q (record { near = record { twice = record { low = low; high = high } }; even = λ at. ⊎-elim above below at }),
+    )
 
 -- ---- by the floor of (2a + b) / (2b), which is nearest with halves up
 module _ (a : ℤ) {b : ℤ} (up : ℤ) (p : pos 0 <ℤ b) where

@@ -29,7 +29,7 @@ use Rattle.scene.specs.declared.Channel.{Channel}
 use Rattle.scene.specs.Ranges.{ConstantsRange}
 use Rattle.scene.specs.Scene.{noConstants}
 use Rattle.lastscan.specs.Ranges.{SmallChannel, KeptChannel}
-use Rattle.lastscan.specs.Numbers.{highHalf, lowHalf, complement, numbersOfChannel, wide, channelBy, constantsInside, allZero, channelInside, SmallPart}
+use Rattle.lastscan.specs.Numbers.{highHalf, lowHalf, complement, numbersOfChannel, wide, channelBy, constantsInside, allZero, channelNumbersInside, SmallPart}
 
 -- ---- a number and its halves, and two's complement
 
@@ -72,11 +72,11 @@ constants-are-inside channel range =
     let base-small : natAbs (k .base) ≤ 51136960500 = bounded-size (bounded-not-negative (range .base-low) (range .base-high)) in
     rw (halves-read-back (k .d), halves-read-back (k .base), complement-read-back (range .tnl), between-is-inside (range .tc-low) (range .tc-high), between-is-inside (range .rise-low) (range .rise-high), at-most-test (range .tnl .low), at-most-test (range .tnl .high), between-is-inside above-zero reach, le-leb _ _ slope-small, le-leb _ _ base-small)
 
-pub kept-is-inside : {channel : Channel} → KeptChannel channel → channelInside (numbersOfChannel channel) ≡ true
-unfolding channelInside allZero every
+pub kept-is-inside : {channel : Channel} → KeptChannel channel → channelNumbersInside (numbersOfChannel channel) ≡ true
+unfolding channelNumbersInside allZero every
 kept-is-inside {channel} kept = by-flag (ℕ-discrete (channel .flag) 0)
   where
-    by-flag : Dec (channel .flag ≡ 0) → channelInside (numbersOfChannel channel) ≡ true
+    by-flag : Dec (channel .flag ≡ 0) → channelNumbersInside (numbersOfChannel channel) ≡ true
     by-flag (yes zero) = rw (eq-eqb (channel .flag) 0 zero) (constants-are-inside channel (kept .constants zero))
     by-flag (no flagged) = rw (kept .none flagged, ne-eqb (channel .flag) 0 flagged, le-leb (channel .flag) 4 (kept .flag))
 
@@ -151,8 +151,8 @@ module _ (part : List ℕ) where
   abbrev Passed : Type 0
   Passed = ((at 0 ≡ 0) × (constantsInside part ≡ true)) ⊎ ((at 0 ≡ 0 → ⊥) × (at 0 ≤ 4) × ((i : ℕ) → at (1 + i) ≡ 0))
 
-  passed : channelInside part ≡ true → Passed
-  unfolding channelInside
+  passed : channelNumbersInside part ≡ true → Passed
+  unfolding channelNumbersInside
   passed inside = by-flag (ℕ-discrete (at 0) 0)
     where
       by-flag : Dec (at 0 ≡ 0) → Passed
@@ -161,7 +161,7 @@ module _ (part : List ℕ) where
           let tests = and-eq-true-iff (leb (at 0) 4) (allZero (drop 1 part)) .0 (rw (ne-eqb (at 0) 0 flagged) at inside) in
           inr (flagged, leb-true (at 0) 4 (tests .0), λ i. sym (getD-drop 1 part i 0) ∙ each-is-zero (drop 1 part) (tests .1) i)
 
-  pub inside-is-kept : channelInside part ≡ true → KeptChannel (channelBy part)
+  pub inside-is-kept : channelNumbersInside part ≡ true → KeptChannel (channelBy part)
   unfolding channelBy
   inside-is-kept inside =
       ⊎-elim
@@ -169,7 +169,7 @@ module _ (part : List ℕ) where
       (λ flagged. record { flag = flagged .1; constants = λ zero. absurd (flagged .0 zero); none = λ _. zeros-are-no-constants (flagged .2) })
       (passed inside)
 
-  pub inside-is-small-part : channelInside part ≡ true → SmallPart part
+  pub inside-is-small-part : channelNumbersInside part ≡ true → SmallPart part
   inside-is-small-part inside =
       ⊎-elim
       (λ plain. record { flag = omega (arith, plain .0); d = omega (arith, d-between (plain .1), slope-at-most (plain .1)); base = omega (arith, base-at-most (plain .1)) })

@@ -30,7 +30,7 @@ use Rattle.scene.specs.declared.Channel.{Channel}
 use Rattle.lastscan.specs.declared.LastScan.{LastScan}
 use Rattle.lastscan.specs.LastScan.{nothingKept, channelIn}
 use Rattle.lastscan.specs.Ranges.{SmallChannel, KeptChannel, LastRange}
-use Rattle.lastscan.specs.Numbers.{channelNumbers, lastNumbers, numbersOfChannel, numbersOf, partOf, channelBy, lastBy, allZero, channelInside, lastInside, SmallPart}
+use Rattle.lastscan.specs.Numbers.{channelNumbers, lastNumbers, numbersOfChannel, numbersOf, numbersPart, channelBy, lastBy, allZero, channelNumbersInside, lastInside, SmallPart}
 use Rattle.lastscan.proofs.ChannelLaws.{channel-read-back, kept-is-inside, each-is-zero, zeros-are-no-channel, zeros-are-small, inside-is-kept, inside-is-small-part}
 
 -- ---- the numbers of each channel
@@ -40,12 +40,12 @@ numbersAt all c = numbersOfChannel (getD all c noChannel)
 
 -- of numbers: channel c, and whether it passes the test
 abbrev pub channelAt : List ℕ → ℕ → Channel
-channelAt numbers c = channelBy (partOf numbers c)
+channelAt numbers c = channelBy (numbersPart numbers c)
 
 abbrev pub insideAt : List ℕ → ℕ → Bool
-insideAt numbers c = channelInside (partOf numbers c)
+insideAt numbers c = channelNumbersInside (numbersPart numbers c)
 
-pub length-channel-part : (numbers : List ℕ) → length numbers ≡ lastNumbers → (c : ℕ) → c < channels → length (partOf numbers c) ≡ channelNumbers
+pub length-channel-part : (numbers : List ℕ) → length numbers ≡ lastNumbers → (c : ℕ) → c < channels → length (numbersPart numbers c) ≡ channelNumbers
 length-channel-part numbers long c below = length-part numbers (1 + channelNumbers * c) channelNumbers (omega arith)
 
 module _ (last : LastScan) where
@@ -53,7 +53,7 @@ module _ (last : LastScan) where
   unfolding numbersOf
   length-numbers = ap suc (length-cells (numbersAt (last .channels)) channelNumbers (λ _. refl) channels)
 
-  part-of-numbers : (c : ℕ) → c < channels → partOf (numbersOf last) c ≡ numbersAt (last .channels) c
+  part-of-numbers : (c : ℕ) → c < channels → numbersPart (numbersOf last) c ≡ numbersAt (last .channels) c
   unfolding numbersOf
   part-of-numbers c below =
       ap (take channelNumbers) (sym (drop-drop (channelNumbers * c) 1 (numbersOf last)))
@@ -152,7 +152,7 @@ module _ {last : LastScan} (range : LastRange last) where
   kept-numbers-inside some =
       rw (first-is-one some)
       (every-when-each (insideAt (numbersOf last)) channels
-      (λ c below. ap channelInside (part-of-numbers last c below) ∙ kept-is-inside (range .kept some c below)))
+      (λ c below. ap channelNumbersInside (part-of-numbers last c below) ∙ kept-is-inside (range .kept some c below)))
 
   pub last-is-inside : (accepted : Bool) → (last .any ≡ true → accepted ≡ true) → lastInside accepted (numbersOf last) ≡ true
   last-is-inside accepted where-accepted = by-any (last .any) refl
@@ -168,7 +168,7 @@ module _ (accepted : Bool) (numbers : List ℕ) where
   abbrev Passed : Type 0
   Passed =
       ((eqb (getD numbers 0 0) 1 ≡ true) × ((c : ℕ) → c < channels → insideAt numbers c ≡ true))
-      ⊎ ((eqb (getD numbers 0 0) 1 ≡ false) × ((c i : ℕ) → getD (partOf numbers c) i 0 ≡ 0))
+      ⊎ ((eqb (getD numbers 0 0) 1 ≡ false) × ((c i : ℕ) → getD (numbersPart numbers c) i 0 ≡ 0))
 
   passed : lastInside accepted numbers ≡ true → Passed
   unfolding lastInside
@@ -182,9 +182,9 @@ module _ (accepted : Bool) (numbers : List ℕ) where
           let zeros = each-is-zero numbers (rw first at inside) in
           inr (first, λ c. each-of-take 0 (λ n. n ≡ 0) refl channelNumbers (drop (1 + channelNumbers * c) numbers) (each-of-drop 0 (λ n. n ≡ 0) refl (1 + channelNumbers * c) numbers zeros))
 
-  no-channels : ((c i : ℕ) → getD (partOf numbers c) i 0 ≡ 0) → tabulate (channelAt numbers) channels ≡ replicate channels noChannel
+  no-channels : ((c i : ℕ) → getD (numbersPart numbers c) i 0 ≡ 0) → tabulate (channelAt numbers) channels ≡ replicate channels noChannel
   unfolding tabulate
-  no-channels zeros = tabulate-same (channelAt numbers) (λ _. noChannel) channels (λ c below. zeros-are-no-channel (partOf numbers c) (zeros c))
+  no-channels zeros = tabulate-same (channelAt numbers) (λ _. noChannel) channels (λ c below. zeros-are-no-channel (numbersPart numbers c) (zeros c))
 
   module _ (long : length numbers ≡ lastNumbers) (inside : lastInside accepted numbers ≡ true) where
     pub inside-in-range : LastRange (lastBy numbers)
@@ -193,7 +193,7 @@ module _ (accepted : Bool) (numbers : List ℕ) where
         ⊎-elim
         (λ kept. record {
           long = length-tabulate (channelAt numbers) channels;
-          kept = λ _ c below. subst KeptChannel (sym (getD-tabulate (channelAt numbers) channels c noChannel below)) (inside-is-kept (partOf numbers c) (kept .1 c below));
+          kept = λ _ c below. subst KeptChannel (sym (getD-tabulate (channelAt numbers) channels c noChannel below)) (inside-is-kept (numbersPart numbers c) (kept .1 c below));
           nothing = λ none. absurd (false≢true (sym none ∙ kept .0));
         })
         (λ nothing. record {
@@ -203,6 +203,6 @@ module _ (accepted : Bool) (numbers : List ℕ) where
         })
         (passed inside)
 
-    pub inside-is-small : (c : ℕ) → c < channels → SmallPart (partOf numbers c)
+    pub inside-is-small : (c : ℕ) → c < channels → SmallPart (numbersPart numbers c)
     inside-is-small c below =
-        ⊎-elim (λ kept. inside-is-small-part (partOf numbers c) (kept .1 c below)) (λ nothing. zeros-are-small (partOf numbers c) (nothing .1 c)) (passed inside)
+        ⊎-elim (λ kept. inside-is-small-part (numbersPart numbers c) (kept .1 c below)) (λ nothing. zeros-are-small (numbersPart numbers c) (nothing .1 c)) (passed inside)

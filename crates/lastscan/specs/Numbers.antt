@@ -48,8 +48,8 @@ abbrev pub wide : (high low : ℕ) → ℕ
 wide high low = 4294967296 * high + low
 
 -- the nine numbers of channel c
-abbrev pub partOf : List ℕ → ℕ → List ℕ
-partOf numbers c = take channelNumbers (drop (1 + channelNumbers * c) numbers)
+abbrev pub numbersPart : List ℕ → ℕ → List ℕ
+numbersPart numbers c = take channelNumbers (drop (1 + channelNumbers * c) numbers)
 
 unfoldable pub channelBy : List ℕ → Channel
 channelBy part =
@@ -67,7 +67,7 @@ channelBy part =
     }
 
 unfoldable pub lastBy : List ℕ → LastScan
-lastBy numbers = record { any = eqb (getD numbers 0 0) 1; channels = tabulate (λ c. channelBy (partOf numbers c)) channels }
+lastBy numbers = record { any = eqb (getD numbers 0 0) 1; channels = tabulate (λ c. channelBy (numbersPart numbers c)) channels }
 
 -- ---- which numbers are those of a scan
 -- the constants of a channel with flag 0 are in their ranges; D is from 1 to 65,535 × 12 × Wc × Ww
@@ -81,13 +81,13 @@ unfoldable pub allZero : List ℕ → Bool
 allZero numbers = every (λ i. eqb (getD numbers i 0) 0) (length numbers)
 
 -- a channel with flag 1 to 4 has no other number
-unfoldable pub channelInside : List ℕ → Bool
-channelInside part = cond (eqb (getD part 0 0) 0) (constantsInside part) (leb (getD part 0 0) 4 && allZero (drop 1 part))
+unfoldable pub channelNumbersInside : List ℕ → Bool
+channelNumbersInside part = cond (eqb (getD part 0 0) 0) (constantsInside part) (leb (getD part 0 0) 4 && allZero (drop 1 part))
 
 -- nothing is kept, or a scan is, where one was accepted
 unfoldable pub lastInside : (accepted : Bool) → List ℕ → Bool
 lastInside accepted numbers =
-    cond (eqb (getD numbers 0 0) 1) (accepted && every (λ c. channelInside (partOf numbers c)) channels) (allZero numbers)
+    cond (eqb (getD numbers 0 0) 1) (accepted && every (λ c. channelNumbersInside (numbersPart numbers c)) channels) (allZero numbers)
 
 -- what fits a channel: a flag of a byte, and wide numbers of at most 63 bits
 pub record SmallPart (part : List ℕ) : Type 0 where

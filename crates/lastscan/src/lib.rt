@@ -14,7 +14,7 @@ ghost use Rattle.thermometer.specs.Reading.{fromTo};
 ghost use Rattle.product.specs.Scenes.{noChannel};
 ghost use Rattle.lastscan.specs.LastScan.{nothingKept};
 ghost use Rattle.lastscan.specs.Ranges.{SmallChannel, LastRange};
-ghost use Rattle.lastscan.specs.Numbers.{channelNumbers, lastNumbers, highHalf, lowHalf, complement, numbersOfChannel, numbersOf, wide, partOf, channelBy, lastBy, constantsInside, allZero, channelInside, lastInside, SmallPart};
+ghost use Rattle.lastscan.specs.Numbers.{channelNumbers, lastNumbers, highHalf, lowHalf, complement, numbersOfChannel, numbersOf, wide, numbersPart, channelBy, lastBy, constantsInside, allZero, channelNumbersInside, lastInside, SmallPart};
 use instrument::CHANNELS;
 use scene::Channel;
 use scene::Constants;
@@ -168,7 +168,7 @@ fn all_zero(numbers: &[u32]) -> bool
 
 fn channel_inside(part: &[u32]) -> bool
     requires { ⌜ length (now part) ≡ channelNumbers ⌝ }
-    ensures { λ b. ⌜ b ≡ channelInside (now (part .entry)) ⌝ }
+    ensures { λ b. ⌜ b ≡ channelNumbersInside (now (part .entry)) ⌝ }
 {
     if part[0] == 0 {
         return constants_inside(part);
@@ -182,7 +182,7 @@ fn channel_inside(part: &[u32]) -> bool
 // The nine numbers of channel c.
 fn part_of(numbers: &[u32], c: usize) -> &[u32]
     requires { ⌜ (length (now numbers) ≡ lastNumbers) × (c < channels) ⌝ }
-    ensures { λ r. ⌜ now r ≡ partOf (now (numbers .entry)) c ⌝ }
+    ensures { λ r. ⌜ now r ≡ numbersPart (now (numbers .entry)) c ⌝ }
 {
     let at = 1 + CHANNEL_NUMBERS * c;
     &numbers[at..at + CHANNEL_NUMBERS]
@@ -190,7 +190,7 @@ fn part_of(numbers: &[u32], c: usize) -> &[u32]
 
 fn channels_inside(numbers: &[u32]) -> bool
     requires { ⌜ length (now numbers) ≡ lastNumbers ⌝ }
-    ensures { λ b. ⌜ b ≡ every (λ c. channelInside (partOf (now (numbers .entry)) c)) channels ⌝ }
+    ensures { λ b. ⌜ b ≡ every (λ c. channelNumbersInside (numbersPart (now (numbers .entry)) c)) channels ⌝ }
 {
     for c in 0..CHANNELS {
         if !channel_inside(part_of(numbers, c)) {
@@ -235,7 +235,7 @@ fn channel_by(part: &[u32]) -> Channel
 
 // The scan that these numbers are.
 pub fn last_by(numbers: &[u32]) -> LastScan
-    requires { ⌜ (length (now numbers) ≡ lastNumbers) × ((c : ℕ) → c < channels → SmallPart (partOf (now numbers) c)) ⌝ }
+    requires { ⌜ (length (now numbers) ≡ lastNumbers) × ((c : ℕ) → c < channels → SmallPart (numbersPart (now numbers) c)) ⌝ }
     ensures { λ r. ⌜ r ≡ lastBy (now (numbers .entry)) ⌝ }
 {
     let mut all = [no_channel(); CHANNELS];

@@ -27,7 +27,7 @@ use Rattle.promise.proofs.HistoryLaws.{kept-shape}
 use Rattle.promise.proofs.Demand.{demand-three}
 use Rattle.state.specs.State.{stateSize, stateOf, calibratorIn, isState}
 use Rattle.live.specs.Calls.{Left, freshBy, stateBy, leftBy, leftIf, fedState, foundIn}
-use Rattle.live.specs.Runs.{Call, feedsOf, leftAt, stateAfter, firstState, CallClaim, DemandThreeByStates}
+use Rattle.live.specs.Runs.{Call, feedsOfCalls, leftAt, stateAfter, firstState, CallClaim, DemandThreeByStates}
 use Rattle.state.proofs.WindowLaws.{empty-is-shaped, empty-reached-only, next-is-shaped, next-reached-only}
 use Rattle.live.proofs.CallLaws.{fresh-passes, state-found}
 use Rattle.state.proofs.ReadBack.{Savable, length-state, is-state, read-back}
@@ -103,7 +103,7 @@ pub record SavedAs (state : List ℕ) (c : Calibrator) : Type 0 where
   pub same : state ≡ stateOf c
   pub savable : Savable c
 
-pub saved-after : (calls : List Call) → AllOfBytes (feedsOf calls) → {state : List ℕ} {c : Calibrator} → SavedAs state c → SavedAs (stateAfter state calls) (calibratorAfter c (feedsOf calls))
+pub saved-after : (calls : List Call) → AllOfBytes (feedsOfCalls calls) → {state : List ℕ} {c : Calibrator} → SavedAs state c → SavedAs (stateAfter state calls) (calibratorAfter c (feedsOfCalls calls))
 unfolding All stateAfter calibratorAfter
 saved-after [] bytes saved-as = saved-as
 saved-after (call ∷ more) bytes saved-as =
@@ -127,9 +127,9 @@ first-is-saved table accepted bias file memory room =
 
 -- ---- demand 3 of such a run
 
-module _ (fresh : Calibrator) (first : List ℕ) (calls : List Call) (saved-as : SavedAs (stateAfter first calls) (calibratorAfter fresh (feedsOf calls))) (call : Call) (bytes : OfBytes (call .feed)) where
+module _ (fresh : Calibrator) (first : List ℕ) (calls : List Call) (saved-as : SavedAs (stateAfter first calls) (calibratorAfter fresh (feedsOfCalls calls))) (call : Call) (bytes : OfBytes (call .feed)) where
   abbrev reached : Calibrator
-  reached = calibratorAfter fresh (feedsOf calls)
+  reached = calibratorAfter fresh (feedsOfCalls calls)
 
   left-as-step : leftAt (stateAfter first calls) call ≡ leftBy (stateOf reached ++ call .behind) (step reached (call .feed))
   left-as-step = ap (λ (s : List ℕ). leftAt s call) (saved-as .same) ∙ fed-as-step (saved-as .savable) (call .behind) (call .feed)
@@ -151,6 +151,6 @@ demand-three-by-states table accepted bias file memory room calls others bytes =
     let saved-as = saved-after calls bytes (first-is-saved table accepted bias file memory room) in
     record {
       each = λ call also. call-claim (freshOf table bias) (firstState table bias memory) calls saved-as call also;
-      promise = demand-three table accepted bias file (feedsOf calls) (feedsOf others);
+      promise = demand-three table accepted bias file (feedsOfCalls calls) (feedsOfCalls others);
       counts = λ behind channel wanted. ap (λ (s : List ℕ). foundIn (s ++ behind) channel wanted) (saved-as .same) ∙ found-as-kept (saved-as .savable) behind channel wanted;
     }

@@ -23,8 +23,8 @@ pub record Call : Type 0 where
   pub feed : Feed
   pub behind : List ℕ
 
-abbrev pub feedsOf : List Call → List Feed
-feedsOf calls = map (λ (call : Call). call .feed) calls
+abbrev pub feedsOfCalls : List Call → List Feed
+feedsOfCalls calls = map (λ (call : Call). call .feed) calls
 
 abbrev pub leftAt : List ℕ → Call → Left
 leftAt state call = fedState (state ++ call .behind) (call .feed)
@@ -42,22 +42,22 @@ firstState table bias memory = take stateSize (freshBy (freshVerdict (table .byt
 pub record CallClaim (fresh : Calibrator) (first : List ℕ) (calls : List Call) (call : Call) : Type 0 where
   -- what was written is read back as the run's calibrator
   pub state : isState (stateAfter first calls ++ call .behind) ≡ true
-  pub calibrator : calibratorIn (stateAfter first calls ++ call .behind) ≡ calibratorAfter fresh (feedsOf calls)
+  pub calibrator : calibratorIn (stateAfter first calls ++ call .behind) ≡ calibratorAfter fresh (feedsOfCalls calls)
   -- answer and buffer are the run's outcome
-  pub answer : leftAt (stateAfter first calls) call .answer ≡ replyNumber (outcomeAfter fresh (feedsOf calls) (call .feed) .reply)
-  pub buffer : leftAt (stateAfter first calls) call .buffer ≡ outcomeAfter fresh (feedsOf calls) (call .feed) .buffer
+  pub answer : leftAt (stateAfter first calls) call .answer ≡ replyNumber (outcomeAfter fresh (feedsOfCalls calls) (call .feed) .reply)
+  pub buffer : leftAt (stateAfter first calls) call .buffer ≡ outcomeAfter fresh (feedsOfCalls calls) (call .feed) .buffer
   -- the bytes behind the state are as they were
   pub behind : drop stateSize (leftAt (stateAfter first calls) call .state) ≡ call .behind
 
 pub record RunPromise (fresh : Calibrator) (s : Settings) (bias first : List ℕ) (calls others : List Call) : Type 0 where
   pub each : (call : Call) → OfBytes (call .feed) → CallClaim fresh first calls call
-  pub promise : Promise fresh s bias (feedsOf calls) (feedsOf others)
+  pub promise : Promise fresh s bias (feedsOfCalls calls) (feedsOfCalls others)
   -- and the count behind a temperature is that of the run's calibrator, whatever bytes come behind the state
-  pub counts : (behind : List ℕ) (channel wanted : ℕ) → foundIn (stateAfter first calls ++ behind) channel wanted ≡ answerOf (calibratorAfter fresh (feedsOf calls)) channel wanted
+  pub counts : (behind : List ℕ) (channel wanted : ℕ) → foundIn (stateAfter first calls ++ behind) channel wanted ≡ answerOf (calibratorAfter fresh (feedsOfCalls calls)) channel wanted
 
 -- for every accepted table, every accepted bias file, every memory that a state has room in, every list of calls and every second list
 abbrev pub DemandThreeByStates : Type 0
 DemandThreeByStates =
     (table : Table) → AcceptedTable (table .bytes) → (bias : Bias) → AcceptedBias (bias .bytes) → (memory : List ℕ) → stateSize ≤ length memory
-    → (calls others : List Call) → AllOfBytes (feedsOf calls)
+    → (calls others : List Call) → AllOfBytes (feedsOfCalls calls)
     → RunPromise (freshOf table bias) (settingsOf ages (table .bytes)) (bias .bytes) (firstState table bias memory) calls others

@@ -25,7 +25,7 @@ use Rattle.scene.proofs.Exact.{kelvin-order}
 use Rattle.scene.specs.declared.Channel.{Channel}
 use Rattle.instrument.specs.Instrument.{channels, positions}
 use Rattle.product.specs.declared.Summary.{Summary}
-use Rattle.product.specs.Scenes.{Deliver, sceneAt, noChannel, delivered}
+use Rattle.product.specs.Scenes.{Deliver, sceneAt, noChannel, sceneDelivered}
 use Rattle.record.specs.Record.{earthPart}
 use Rattle.product.specs.Summary.{noneDelivered, withTemperature, withScene, summaryTo, summaryOf}
 use Rattle.product.specs.Product.{summaries, deliveredCount}
@@ -44,7 +44,7 @@ module _ (scenes : ℕ → Scene) where
 
 -- ---- the count
 
-count-with-scene : (s : Summary) (scene : Scene) → withScene s scene .count ≡ s .count + cond (delivered scene) 1 0
+count-with-scene : (s : Summary) (scene : Scene) → withScene s scene .count ≡ s .count + cond (sceneDelivered scene) 1 0
 unfolding withScene withTemperature
 count-with-scene s (Kelvin x) = refl
 count-with-scene s Flagged = sym (add-zero (s .count))
@@ -52,28 +52,28 @@ count-with-scene s Outside = sym (add-zero (s .count))
 count-with-scene s Guard = sym (add-zero (s .count))
 
 module _ (scenes : ℕ → Scene) where
-  count-is-delivered : (n : ℕ) → summaryTo scenes n .count ≡ count (λ i. delivered (scenes i)) n
+  count-is-delivered : (n : ℕ) → summaryTo scenes n .count ≡ count (λ i. sceneDelivered (scenes i)) n
   unfolding summaryTo count
   count-is-delivered zero = refl
   count-is-delivered (suc n) =
-      count-with-scene (summaryTo scenes n) (scenes n) ∙ ap (λ k. k + cond (delivered (scenes n)) 1 0) (count-is-delivered n)
+      count-with-scene (summaryTo scenes n) (scenes n) ∙ ap (λ k. k + cond (sceneDelivered (scenes n)) 1 0) (count-is-delivered n)
 
   pub count-at-most : (n : ℕ) → summaryTo scenes n .count ≤ n
-  count-at-most n = rw (count-is-delivered n) (tests.count-at-most (λ i. delivered (scenes i)) n)
+  count-at-most n = rw (count-is-delivered n) (tests.count-at-most (λ i. sceneDelivered (scenes i)) n)
 
   -- a delivered scene is counted
-  counted : (n i : ℕ) → i < n → delivered (scenes i) ≡ true → 0 < summaryTo scenes n .count
+  counted : (n i : ℕ) → i < n → sceneDelivered (scenes i) ≡ true → 0 < summaryTo scenes n .count
   counted n i below is =
-      let holds : ℕ → Bool = λ k. delivered (scenes k) in
+      let holds : ℕ → Bool = λ k. sceneDelivered (scenes k) in
       omega (arith, count-is-delivered n, tests.count-when-true holds i is, tests.count-rises holds (i + 1) n (omega arith))
 
-pub summary-count : (deliver : Deliver) (channel : Channel) (part : List ℕ) → summaryOf deliver channel part .count ≡ count (λ i. delivered (sceneAt deliver channel part i)) positions
+pub summary-count : (deliver : Deliver) (channel : Channel) (part : List ℕ) → summaryOf deliver channel part .count ≡ count (λ i. sceneDelivered (sceneAt deliver channel part i)) positions
 summary-count deliver channel part = count-is-delivered (sceneAt deliver channel part) positions
 
 module _ (deliver : ℕ → Deliver) (states : List Channel) (earth : List ℕ) where
   -- what a product delivers is the sum over its channels
   pub delivered-count : deliveredCount deliver states earth
-      ≡ sum (λ c. count (λ i. delivered (sceneAt (deliver c) (getD states c noChannel) (earthPart earth c) i)) positions) channels
+      ≡ sum (λ c. count (λ i. sceneDelivered (sceneAt (deliver c) (getD states c noChannel) (earthPart earth c) i)) positions) channels
   unfolding deliveredCount
   delivered-count = sum-same _ _ channels (λ c below. summary-count (deliver c) (getD states c noChannel) (earthPart earth c))
 
@@ -186,7 +186,7 @@ module _ (scenes : ℕ → Scene) (units : (i : ℕ) (x : Float) → scenes i �
     end-of-first zero some = absurd (omega arith)
     end-of-first (suc n) some =
         end-with-scene n (summaryTo scenes n) (scenes n) refl
-        (λ none i y below is. let c = counted scenes n i below (ap delivered is) in omega arith)
+        (λ none i y below is. let c = counted scenes n i below (ap sceneDelivered is) in omega arith)
         (end-of-first n) some
 
 -- ---- both orders, on temperatures in units

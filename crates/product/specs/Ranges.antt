@@ -4,5 +4,5 @@ use Rattle.scene.specs.Ranges.{ConstantsRange}
 use Rattle.scene.specs.declared.Channel.{Channel}
 
 -- what a channel keeps to: with flag 0 its constants are in their ranges
-pub record ChannelRange (channel : Channel) : Type 0 where
+pub record ChannelStateRange (channel : Channel) : Type 0 where
   pub constants : channel .flag ≡ 0 → ConstantsRange (channel .constants)

@@ -14,7 +14,7 @@ use Rattle.scene.specs.declared.Channel.{Channel}
 
 -- which temperature, in units, is delivered for T at each position of a channel
 abbrev pub Deliver : Type 0
-Deliver = ℕ → ℤ → ℤ
+Deliver = (position : ℕ) (T : ℤ) → ℤ
 
 -- T itself without scan bias; with it what the channel's part of the bias file says
 abbrev pub withoutBias : Deliver
@@ -24,7 +24,7 @@ abbrev pub withBias : List ℕ → Deliver
 withBias part i = biased (c0In part i) (eIn part i)
 
 -- the same for each channel
-abbrev pub byBias : List ℕ → ℕ → Deliver
+abbrev pub byBias : List ℕ → (channel : ℕ) → Deliver
 byBias bias c = withBias (biasPart bias c)
 
 -- a flagged channel has no other scene
@@ -40,8 +40,8 @@ abbrev pub sceneAt : Deliver → Channel → List ℕ → ℕ → Scene
 sceneAt deliver channel part i = sceneIn (deliver i) channel (u16At part (2 * i))
 
 -- a scene is delivered if it is a temperature
-abbrev pub delivered : Scene → Bool
-delivered (Kelvin x) = true
-delivered Flagged = false
-delivered Outside = false
-delivered Guard = false
+abbrev pub sceneDelivered : Scene → Bool
+sceneDelivered (Kelvin x) = true
+sceneDelivered Flagged = false
+sceneDelivered Outside = false
+sceneDelivered Guard = false

@@ -10,7 +10,7 @@ ghost use Rattle.record.specs.Record.{earthSize};
 ghost use Rattle.scene.specs.Temperature.{biased};
 ghost use Rattle.scene.specs.Steps.{c0Of, eOf, BiasNumbers};
 ghost use Rattle.product.specs.Scenes.{sceneIn, noChannel};
-ghost use Rattle.product.specs.Ranges.{ChannelRange};
+ghost use Rattle.product.specs.Ranges.{ChannelStateRange};
 ghost use Rattle.product.specs.Summary.{noneDelivered, lesser, greater, withTemperature, withScene, summaryOf};
 ghost use Rattle.product.specs.Product.{productSize, stretchSize, summarySize, channelScenes, sceneBytes, summaryBytes, summaries, summariesBytes, flagBytes, productOf, deliveredCount};
 ghost use Rattle.product.specs.Steps.{Plain, withPairs, pairsSize, pairsPart, byPairs, PairsRange, scaleIn};
@@ -113,7 +113,7 @@ impl Summary {
 
 // What the scenes of a channel share; of a flagged channel nothing is needed.
 fn scale_in(channel: Channel) -> Scale
-    requires { ⌜ ChannelRange channel ⌝ }
+    requires { ⌜ ChannelStateRange channel ⌝ }
     ensures { λ r. ⌜ r ≡ scaleIn channel ⌝ }
 {
     if channel.flag != 0 {
@@ -132,7 +132,7 @@ fn scale_in(channel: Channel) -> Scale
 
 // The scene of a count in a channel, after scan bias.
 fn scene_in(channel: Channel, scale: Scale, factor: u32, offset: u32, count: u16) -> Scene
-    requires { ⌜ ChannelRange channel × (scale ≡ scaleIn channel) × BiasNumbers factor offset ⌝ }
+    requires { ⌜ ChannelStateRange channel × (scale ≡ scaleIn channel) × BiasNumbers factor offset ⌝ }
     ensures { λ s. ⌜ s ≡ sceneIn (biased (c0Of offset) (eOf factor)) channel count ⌝ }
 {
     if channel.flag != 0 {
@@ -146,7 +146,7 @@ fn scene_in(channel: Channel, scale: Scale, factor: u32, offset: u32, count: u16
 
 // The scenes of a channel into its own stretch; `pairs` and `part` are the channel's parts of the scan bias and of the earth counts.
 fn write_channel(out: &mut [u8], channel: Channel, pairs: &[u32], part: &[u8]) -> Summary
-    requires { ⌜ (length (now out) ≡ stretchSize) × (length (now part) ≡ earthSize) × ChannelRange channel ⌝ }
+    requires { ⌜ (length (now out) ≡ stretchSize) × (length (now part) ≡ earthSize) × ChannelStateRange channel ⌝ }
     requires { ⌜ (length (now pairs) ≡ pairsSize) × PairsRange (now pairs) ⌝ }
     ensures { λ r. ⌜ (r ≡ summaryOf (withPairs (now (pairs .entry))) channel (now (part .entry))) × (now (out .exit) ≡ channelScenes (withPairs (now (pairs .entry))) channel (now (part .entry))) ⌝ }
 {
@@ -169,7 +169,7 @@ fn write_scenes(
     pairs: &[u32],
     earth: &[u8],
 ) -> [Summary; CHANNELS]
-    requires { ⌜ (length (now out) ≡ stretchSize * channels) × (length (now earth) ≡ earthSize * channels) × ((c : ℕ) → c < channels → ChannelRange (getD states c noChannel)) ⌝ }
+    requires { ⌜ (length (now out) ≡ stretchSize * channels) × (length (now earth) ≡ earthSize * channels) × ((c : ℕ) → c < channels → ChannelStateRange (getD states c noChannel)) ⌝ }
     requires { ⌜ (length (now pairs) ≡ pairsSize * channels) × ((c : ℕ) → c < channels → PairsRange (pairsPart (now pairs) c)) ⌝ }
     ensures { λ r. ⌜ (r ≡ summaries (byPairs (now (pairs .entry))) states (now (earth .entry))) × (now (out .exit) ≡ sceneBytes (byPairs (now (pairs .entry))) states (now (earth .entry))) ⌝ }
 {
@@ -240,7 +240,7 @@ pub fn write_product(
     pairs: &[u32],
     earth: &[u8],
 ) -> u32
-    requires { ⌜ (productSize ≤ length (now buffer)) × (length (now earth) ≡ earthSize * channels) × ((c : ℕ) → c < channels → ChannelRange (getD states c noChannel)) ⌝ }
+    requires { ⌜ (productSize ≤ length (now buffer)) × (length (now earth) ≡ earthSize * channels) × ((c : ℕ) → c < channels → ChannelStateRange (getD states c noChannel)) ⌝ }
     requires { ⌜ (length (now pairs) ≡ pairsSize * channels) × ((c : ℕ) → c < channels → PairsRange (pairsPart (now pairs) c)) ⌝ }
     ensures { λ n. ⌜ (n ≡ deliveredCount (byPairs (now (pairs .entry))) states (now (earth .entry))) × (now (buffer .exit) ≡ productOf (byPairs (now (pairs .entry))) number states (now (earth .entry)) ++ drop productSize (now (buffer .entry))) ⌝ }
 {

@@ -18,7 +18,7 @@ use Rattle.acceptance.specs.Kept.{keptScan}
 use Rattle.scene.specs.declared.Channel.{Channel}
 use Rattle.window.specs.declared.Means.{Means}
 use Rattle.window.specs.Sums.{meansOf}
-use Rattle.window.specs.Means.{stateOf}
+use Rattle.window.specs.Means.{channelStateOf}
 use Rattle.product.specs.Scenes.{Deliver}
 use Rattle.product.specs.Product.{productOf, deliveredCount, productSize}
 use Rattle.product.proofs.Bytes.{length-product}
@@ -47,7 +47,7 @@ module _ (s : Settings) where
       → scanOfAge s (scan ∷ roll) ≡ scanOfAge s (other ∷ rolled) → channelsAt s (fedMoment roll scan) ≡ channelsAt s (fedMoment rolled other)
   same-channels scan other roll rolled shelves number scans =
       tabulate-same _ _ channels (λ c inside.
-      ap₂ (λ (value : List ℕ) (m : Means). stateOf s c (shelfTemperature value (shelfOf c)) m) shelves
+      ap₂ (λ (value : List ℕ) (m : Means). channelStateOf s c (shelfTemperature value (shelfOf c)) m) shelves
       (means-at-is s (fedMoment roll scan) c inside
       ∙ ap₂ (λ (scans : ℕ → ℕ → Scan) (number : ℕ). meansOf s (λ k. scans number k) c) scans number
       ∙ sym (means-at-is s (fedMoment rolled other) c inside)))

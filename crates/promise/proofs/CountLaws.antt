@@ -21,7 +21,7 @@ use Rattle.table.proofs.Ranges.{in-between}
 use Rattle.bias.specs.declared.Bias.{Bias}
 use Rattle.bias.specs.Bias.{zeroBias}
 use Rattle.bias.proofs.Zeros.{zero-bias-accepted}
-use Rattle.window.specs.Means.{Tw, Tc, constantsOf, stateOf}
+use Rattle.window.specs.Means.{Tw, Tc, constantsOf, channelStateOf}
 use Rattle.scene.specs.declared.Constants.{Constants}
 use Rattle.scene.specs.declared.Channel.{Channel}
 use Rattle.scene.specs.Ranges.{ConstantsRange}
@@ -64,18 +64,18 @@ module _ (s : Settings) (m : Moment) (c : ℕ) where
       let sums = meansAt s m c in
       let channel = s .channel c in
       rw (eq-eqb (flagAt s m c) 0 zero-flag)
-      (ap (λ n. byTests n (dAt s m c) (temperature (Tc channel) (Tw sums channel -ℤ Tc channel) (tnlAt s m c) (dAt s m c) n)) (sym (N-is-numerator constantsAt (pos (sums .ww)) (pos (sums .wc)) (pos (sums .ac)) count refl refl)))
+      (ap (λ n. byTests n (dAt s m c) (temperature (Tc channel) (Tw sums channel -ℤ Tc channel) (tnlAt s m c) (dAt s m c) n)) (sym (N-is-numerator constantsAt (pos (sums .Ww)) (pos (sums .Wc)) (pos (sums .Ac)) count refl refl)))
 
   module _ (below : c < channels) where
-    kept-state : channelIn (keptOf (channelsAt s m)) c ≡ stateOf s c (shelfAt s m c) (meansAt s m c)
-    kept-state = getD-tabulate (λ c. stateOf s c (shelfAt s m c) (meansAt s m c)) channels c noChannel below
+    kept-state : channelIn (keptOf (channelsAt s m)) c ≡ channelStateOf s c (shelfAt s m c) (meansAt s m c)
+    kept-state = getD-tabulate (λ c. channelStateOf s c (shelfAt s m c) (meansAt s m c)) channels c noChannel below
 
     kept-flag : channelIn (keptOf (channelsAt s m)) c .flag ≡ flagAt s m c
-    unfolding stateOf
+    unfolding channelStateOf
     kept-flag = ap (λ (channel : Channel). channel .flag) kept-state
 
     kept-constants : flagAt s m c ≡ 0 → channelIn (keptOf (channelsAt s m)) c .constants ≡ constantsAt
-    unfolding stateOf
+    unfolding channelStateOf
     kept-constants zero-flag = ap (λ (channel : Channel). channel .constants) kept-state ∙ rw (eq-eqb (flagAt s m c) 0 zero-flag) refl
 
 -- ---- what the roll says is answered by what is kept of it

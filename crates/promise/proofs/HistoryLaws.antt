@@ -20,7 +20,7 @@ use Rattle.acceptance.specs.Kept.{keptScan}
 use Rattle.window.specs.declared.Window.{Window}
 use Rattle.scene.specs.declared.Channel.{Channel}
 use Rattle.window.specs.Ages.{noScan, windowOf, windowAfter}
-use Rattle.window.specs.Means.{stateOf}
+use Rattle.window.specs.Means.{channelStateOf}
 use Rattle.window.proofs.AgeLaws.{ScanShape, gap-between, window-after-is-aged, means-of-scans}
 use Rattle.bias.specs.declared.Bias.{Bias}
 use Rattle.product.specs.Scenes.{Deliver, byBias}
@@ -85,7 +85,7 @@ module _ (s : Settings) where
   channels-joined : s .ages ≤ ages → (scan : List ℕ) (roll : Roll) → channelsIn s (windowOf true (scanNumber scan) (scansOf s (scan ∷ roll))) (shelfTemperatures scan) ≡ channelsAt s (fedMoment roll scan)
   channels-joined few scan roll =
       tabulate-same _ _ channels (λ c inside.
-      ap (stateOf s c (shelfTemperature (shelfTemperatures scan) (shelfOf c)))
+      ap (channelStateOf s c (shelfTemperature (shelfTemperatures scan) (shelfOf c)))
       (means-of-scans s few true (scanNumber scan) (scansOf s (scan ∷ roll)) (λ k. by-age-shape (scan ∷ roll) (scanNumber scan) k) c inside
       ∙ sym (means-at-is s (fedMoment roll scan) c inside)))
 

@@ -20,7 +20,7 @@ use Rattle.record.specs.Record.{recordLayout, scanNumber, earthCounts}
 use Rattle.window.specs.declared.Window.{Window}
 use Rattle.scene.specs.declared.Channel.{Channel}
 use Rattle.window.specs.Sums.{meansOf, meansIn}
-use Rattle.window.specs.Means.{stateOf}
+use Rattle.window.specs.Means.{channelStateOf}
 use Rattle.window.proofs.AgeLaws.{ScanShape, means-of-scans}
 use Rattle.bias.specs.declared.Bias.{Bias}
 use Rattle.product.specs.Scenes.{Deliver, byBias}
@@ -139,7 +139,7 @@ module _ (s : Settings) where
   channels-recent few scan roll =
       let older = recent (scanNumber scan) roll in
       tabulate-same _ _ channels (λ c inside.
-      ap (stateOf s c (shelfAt s (fedMoment roll scan) c))
+      ap (channelStateOf s c (shelfAt s (fedMoment roll scan) c))
       (means-at-is s (fedMoment roll scan) c inside
       ∙ means-same few _ _ (λ k. by-age-shape s (scan ∷ roll) (scanNumber scan) k) (λ k. by-age-shape s (scan ∷ older) (scanNumber scan) k) (λ k below. joined-recent scan roll k below) c inside
       ∙ sym (means-at-is s (fedMoment older scan) c inside)))

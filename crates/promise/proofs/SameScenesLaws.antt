@@ -21,7 +21,7 @@ use Rattle.scene.specs.declared.Scene.the-variants.{Kelvin, Outside, Guard}
 use Rattle.scene.specs.Scene.{kelvin, bits, sceneOf}
 use Rattle.scene.specs.Temperature.{temperature, outside, guardFails}
 use Rattle.scene.proofs.Delivered.{N-by-products}
-use Rattle.product.specs.Scenes.{byBias, delivered}
+use Rattle.product.specs.Scenes.{byBias, sceneDelivered}
 use Rattle.product.specs.Product.{productSize}
 use Rattle.calibrator.specs.Feeding.{Outcome}
 use Rattle.promise.specs.Restart.{rolledBy}
@@ -44,7 +44,7 @@ scene-by-numbers s m c zero-flag count =
     let channel = s .channel c in
     let sums = meansAt s m c in
     rw (eq-eqb (flagAt s m c) 0 zero-flag)
-    (ap (λ n. byTests n (dAt s m c) (temperature (Tc channel) (Tw sums channel -ℤ Tc channel) (tnlAt s m c) (dAt s m c) n)) (N-by-products (pos (sums .ww)) (pos (sums .wc)) (pos (sums .ac)) count))
+    (ap (λ n. byTests n (dAt s m c) (temperature (Tc channel) (Tw sums channel -ℤ Tc channel) (tnlAt s m c) (dAt s m c) n)) (N-by-products (pos (sums .Ww)) (pos (sums .Wc)) (pos (sums .Ac)) count))
 
 pub same-scenes : SameScenes
 same-scenes one other zero-flag other-zero agree n small =
@@ -78,7 +78,7 @@ module _ (s : Settings) (bias : List ℕ) (m : Moment) (c i : ℕ) (range : Sett
   shows-by true true fails e f g = word-is s bias m c i range file below inside rest ∙ ap bits (scene-by-tests true fails f g e)
   shows-by true false true e f g = word-is s bias m c i range file below inside rest ∙ ap bits (scene-by-tests false true f g e)
   shows-by true false false e f g =
-      let word = word-delivered s bias m c i range file below inside rest ∙ ap delivered (scene-by-tests false false f g e) in
+      let word = word-delivered s bias m c i range file below inside rest ∙ ap sceneDelivered (scene-by-tests false false f g e) in
       (word, scene-claim s bias m c i range file below inside rest .exact word)
 
   shows : Shows product bias c i (sceneBeforeBias s m c (countAt s m c i))

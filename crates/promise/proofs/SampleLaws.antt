@@ -15,13 +15,13 @@ use Rattle.lists.specs.Sum.{sum}
 use Rattle.lists.proofs.Sum.{sum-same}
 use Rattle.lists.proofs.Tabulate.{length-tabulate, getD-tabulate}
 use Rattle.thermometer.specs.Rule.{InRange}
-use Rattle.thermometer.specs.Reading.{Result, units, refused}
+use Rattle.thermometer.specs.Reading.{Result, units, notRead}
 use Rattle.thermometer.proofs.ReadingLaws.{reading-units-in-range}
 use Rattle.instrument.specs.declared.Side.{Side}
 use Rattle.instrument.specs.declared.Side.the-variants.{Warm, Cold}
 use Rattle.instrument.specs.declared.Target.{Target}
 use Rattle.instrument.specs.declared.Target.the-variants.{Kav, Wg}
-use Rattle.table.specs.Settings.{Settings, Channel}
+use Rattle.table.specs.Settings.{Settings, ChannelSettings}
 use Rattle.instrument.specs.Instrument.{channels, firstOf, sizeOf, targetOf}
 use Rattle.acceptance.specs.declared.Scan.{Scan}
 use Rattle.samples.specs.Good.{Sample, good, chosenTo, chosen, atLeast}
@@ -29,7 +29,7 @@ use Rattle.acceptance.specs.Counts.{Sides, none, overlap, fourCounts, withinLim
 use Rattle.acceptance.proofs.Chosen.{chosen-at-most, length-four-counts}
 use Rattle.table.specs.declared.Limits.{Limits}
 use Rattle.record.specs.Record.{scanNumber, instrument, sideValue, channelPart}
-use Rattle.acceptance.specs.Accepted.{AcceptedSamples, acceptedSamples, acceptedCounts, acceptedThermometers, readingAt, kelvin, kelvins, inLimits}
+use Rattle.acceptance.specs.Accepted.{AcceptedSamples, acceptedSamples, acceptedCounts, acceptedThermometers, readingAt, inKelvin, kelvins, inLimits}
 use Rattle.acceptance.specs.Kept.{keptSide, keptKelvin, keptScan}
 use Rattle.acceptance.proofs.Kelvin.{kelvin-low}
 use Rattle.acceptance.proofs.KeptKelvin.{kept-of-chosen}
@@ -81,9 +81,9 @@ over-chosen f values flags (suc n) =
     by-flag false = refl
 
 -- no T is 0
-kelvin-above : (s : Settings) (r : Result) → ((t : _) → r ≡ units t → InRange t) → inLimits s r ≡ true → kelvin r ≡ 0 → ⊥
+kelvin-above : (s : Settings) (r : Result) → ((t : _) → r ≡ units t → InRange t) → inLimits s r ≡ true → inKelvin r ≡ 0 → ⊥
 kelvin-above s (units t) range passed e = let low = kelvin-low (range t refl) in omega arith
-kelvin-above s (refused n) range passed e = false≢true passed
+kelvin-above s (notRead n) range passed e = false≢true passed
 
 module _ (s : Settings) (value : List ℕ) (target : Target) where
   abbrev flags : List Bool
@@ -257,7 +257,7 @@ exact-counts limits part =
     (let most = chosen-at-most (fourCounts part) (tabulate (good (fourCounts part) (withinLimits limits (fourCounts part)) (limits .difference)) (length (fourCounts part))) (length (fourCounts part)) in
     omega (arith, length-four-counts part))
 
-exact-sides : (channel : Channel) (warm cold : List ℕ) (side : Side) → Exact (ofSide side (acceptedCounts channel warm cold))
+exact-sides : (channel : ChannelSettings) (warm cold : List ℕ) (side : Side) → Exact (ofSide side (acceptedCounts channel warm cold))
 unfolding acceptedCounts acceptedSides withoutOverlap
 exact-sides channel warm cold side = by-overlap (overlap sides) side
   where

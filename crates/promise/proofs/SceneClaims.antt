@@ -35,7 +35,7 @@ use Rattle.window.specs.declared.Means.{Means}
 use Rattle.scene.specs.declared.Channel.{Channel}
 use Rattle.window.specs.Ages.{noScan}
 use Rattle.window.specs.Sums.{meansFrom}
-use Rattle.window.specs.Means.{Tw, Tc, D, flagOf, constantsOf, stateOf}
+use Rattle.window.specs.Means.{Tw, Tc, D, flagOf, constantsOf, channelStateOf}
 use Rattle.window.proofs.ConstantsLaws.{MeanWithin, kelvin-sums, temperatures-within}
 use Rattle.window.proofs.FlagLaws.{Unflagged, unflagged-flag-zero, flag-zero-unflagged, flag-zero-weights-above, flag-zero-warm-above, flag-zero-cold-above}
 use Rattle.scene.specs.declared.Constants.{Constants}
@@ -54,7 +54,7 @@ use Rattle.bias.specs.Bias.{biasPart, c0In}
 use Rattle.bias.specs.Opening.{AcceptedBias}
 use Rattle.bias.specs.Ranges.{PairRange}
 use Rattle.bias.proofs.RangeLaws.{accepted-bias-ranges}
-use Rattle.product.specs.Scenes.{byBias, sceneIn, sceneAt, noChannel, delivered}
+use Rattle.product.specs.Scenes.{byBias, sceneIn, sceneAt, noChannel, sceneDelivered}
 use Rattle.product.specs.Product.{deliveredCount}
 use Rattle.product.proofs.Bytes.{scene-in-product}
 use Rattle.product.proofs.SceneLaws.{InUnitsBy, temperature-in-units, e-bounded, units-by-bias}
@@ -77,10 +77,10 @@ unfolding bits
 mark-guard = refl
 
 pub bits-delivered : (deliver : ℤ → ℤ) (channel : Channel) → InUnitsBy deliver channel → (count : ℕ)
-    → isDelivered (bits (sceneIn deliver channel count)) ≡ delivered (sceneIn deliver channel count)
+    → isDelivered (bits (sceneIn deliver channel count)) ≡ sceneDelivered (sceneIn deliver channel count)
 bits-delivered deliver channel units count = tested (sceneIn deliver channel count) refl
   where
-    tested : (x : Scene) → x ≡ sceneIn deliver channel count → isDelivered (bits x) ≡ delivered x
+    tested : (x : Scene) → x ≡ sceneIn deliver channel count → isDelivered (bits x) ≡ sceneDelivered x
     tested (Kelvin x) e =
         let u = temperature-in-units deliver channel count units x (sym e) in
         let word = bits (Kelvin (kelvin (u .units))) in
@@ -112,17 +112,17 @@ mean-at s m c below =
 
 -- ---- the scene of a channel with this flag and these constants
 module _ (s : Settings) (c : ℕ) (shelf : ℤ) (m : Means) where
-  pub flag-zero-scene : (deliver : ℤ → ℤ) (count : ℕ) → flagOf s (targetOf c) m ≡ 0 → sceneIn deliver (stateOf s c shelf m) count ≡ sceneOf deliver (constantsOf m (s .channel c) shelf) count
-  unfolding sceneIn stateOf
+  pub flag-zero-scene : (deliver : ℤ → ℤ) (count : ℕ) → flagOf s (targetOf c) m ≡ 0 → sceneIn deliver (channelStateOf s c shelf m) count ≡ sceneOf deliver (constantsOf m (s .channel c) shelf) count
+  unfolding sceneIn channelStateOf
   flag-zero-scene deliver count e = rw e
 
-  pub flagged-scene : (deliver : ℤ → ℤ) (count : ℕ) → eqb (flagOf s (targetOf c) m) 0 ≡ false → sceneIn deliver (stateOf s c shelf m) count ≡ Flagged
-  unfolding sceneIn stateOf
+  pub flagged-scene : (deliver : ℤ → ℤ) (count : ℕ) → eqb (flagOf s (targetOf c) m) 0 ≡ false → sceneIn deliver (channelStateOf s c shelf m) count ≡ Flagged
+  unfolding sceneIn channelStateOf
   flagged-scene deliver count e = rw e
 
   -- what holds of the constants of a channel with flag 0 holds of its state
-  flag-zero-constants : (P : Constants → Type 0) → (flagOf s (targetOf c) m ≡ 0 → P (constantsOf m (s .channel c) shelf)) → stateOf s c shelf m .flag ≡ 0 → P (stateOf s c shelf m .constants)
-  unfolding stateOf
+  flag-zero-constants : (P : Constants → Type 0) → (flagOf s (targetOf c) m ≡ 0 → P (constantsOf m (s .channel c) shelf)) → channelStateOf s c shelf m .flag ≡ 0 → P (channelStateOf s c shelf m .constants)
+  unfolding channelStateOf
   flag-zero-constants P holds e = rw (eq-eqb (flagOf s (targetOf c) m) 0 e) (holds e)
 
 -- ---- the rules of document 01 are flag 0 and the tests of a scene
@@ -141,7 +141,7 @@ module _ (s : Settings) (m : Moment) (c i : ℕ) where
 
   pub n-is-numerator : nAt s m c i ≡ numerator constants count
   unfolding constantsOf
-  n-is-numerator = N-is-numerator constants (pos (means .ww)) (pos (means .wc)) (pos (means .ac)) count refl refl
+  n-is-numerator = N-is-numerator constants (pos (means .Ww)) (pos (means .Wc)) (pos (means .Ac)) count refl refl
 
   t-is-temperature : tAt s m c i ≡ temperatureOf constants count
   unfolding constantsOf
@@ -195,7 +195,7 @@ module _ (s : Settings) (m : Moment) (c i : ℕ) where
   -- ---- the scene of the count, whatever is delivered for T
   module _ (deliver : ℤ → ℤ) where
     abbrev pub scene : Scene
-    scene = sceneIn deliver (stateOf s c shelf means) count
+    scene = sceneIn deliver (channelStateOf s c shelf means) count
 
     -- by the rules it is what is delivered for T
     rules-scene : ByTheRules s m c i → scene ≡ Kelvin (kelvin (natAbs (deliver (temperatureOf constants count))))
@@ -214,7 +214,7 @@ module _ (s : Settings) (m : Moment) (c i : ℕ) where
         clash : Flagged ≡ Kelvin x → ⊥
         clash q = let z : _≡_ {A = ℕ} 0 1 = cc in omega arith
 
-    delivered-rules : (t : Scene) → t ≡ scene → delivered t ≡ true → ByTheRules s m c i
+    delivered-rules : (t : Scene) → t ≡ scene → sceneDelivered t ≡ true → ByTheRules s m c i
     delivered-rules (Kelvin x) e d = scene-rules (eqb (flagOf s (targetOf c) means) 0) refl x (sym e)
     delivered-rules Flagged e d = absurd (false≢true d)
     delivered-rules Outside e d = absurd (false≢true d)
@@ -225,14 +225,14 @@ module _ (s : Settings) (m : Moment) (c : ℕ) (range : SettingsRange s) (below 
   tnl-above : pos 0 <ℤ unroundedTnlAt s m c .den
   tnl-above = unrounded-above (range .channel c below .pair) (shelfAt s m c)
 
-  weights-above : {i : ℕ} → ByTheRules s m c i → pos 0 <ℤ pos (meansAt s m c .weights)
+  weights-above : {i : ℕ} → ByTheRules s m c i → pos 0 <ℤ pos (meansAt s m c .sumVP)
   weights-above {i} h = natural-below (flag-zero-weights-above range (targetOf c) (meansAt s m c) (rules-flag-zero s m c i h))
 
   temperature-near : {i : ℕ} → ByTheRules s m c i → Distance (pos 21 /ᶠ pos 8) (tAt s m c i) (eAt s m c i)
   temperature-near h =
       let sums = meansAt s m c in
       let pairs = range .channel c below .pair in
-      temperature-distance (Tc (s .channel c)) (tnlAt s m c) (pos (sums .weighted)) (pos (sums .weights)) (s .channel c .b) (unroundedTnlAt s m c) (h .warmAboveCold) (h .notBelow) (h .notAbove)
+      temperature-distance (Tc (s .channel c)) (tnlAt s m c) (pos (sums .sumVPT)) (pos (sums .sumVP)) (s .channel c .b) (unroundedTnlAt s m c) (h .warmAboveCold) (h .notBelow) (h .notAbove)
       (tnl-bounded pairs (shelfAt s m c)) (weights-above h) tnl-above (tnl-within-half pairs (shelfAt s m c))
 
 pub distance-before-bias : DistanceBeforeBias
@@ -256,7 +256,7 @@ module _ (s : Settings) (bias : List ℕ) (m : Moment) (c i : ℕ) (range : Sett
   pair = accepted-bias-ranges file c below i inside
 
   -- what is delivered is a whole number of units whose f32 is exact
-  in-units : InUnitsBy deliver (stateOf s c (shelfAt s m c) sums)
+  in-units : InUnitsBy deliver (channelStateOf s c (shelfAt s m c) sums)
   in-units = record {
     within = flag-zero-constants s c (shelfAt s m c) sums (λ k. (n : ℕ) → Passes k n → WithinGuard (deliver (temperatureOf k n)))
         (λ zero-flag n passed. units-by-bias pair (passes-range s m c i range below zero-flag n passed));
@@ -268,16 +268,16 @@ module _ (s : Settings) (bias : List ℕ) (m : Moment) (c i : ℕ) (range : Sett
   pub word-is : wordAt product c i ≡ bits (scene s m c i deliver)
   word-is =
       scene-in-product (byBias bias) (currentNumber m) (channelsAt s m) (earthCounts (m .scan)) rest c below i inside
-      ∙ ap (λ (channel : Channel). bits (sceneAt (byBias bias c) channel (earthPart (earthCounts (m .scan)) c) i)) (getD-tabulate (λ c. stateOf s c (shelfAt s m c) (meansAt s m c)) channels c noChannel below)
+      ∙ ap (λ (channel : Channel). bits (sceneAt (byBias bias c) channel (earthPart (earthCounts (m .scan)) c) i)) (getD-tabulate (λ c. channelStateOf s c (shelfAt s m c) (meansAt s m c)) channels c noChannel below)
 
-  pub word-delivered : isDelivered (wordAt product c i) ≡ delivered (scene s m c i deliver)
-  word-delivered = ap isDelivered word-is ∙ bits-delivered deliver (stateOf s c (shelfAt s m c) sums) in-units sceneCount
+  pub word-delivered : isDelivered (wordAt product c i) ≡ sceneDelivered (scene s m c i deliver)
+  word-delivered = ap isDelivered word-is ∙ bits-delivered deliver (channelStateOf s c (shelfAt s m c) sums) in-units sceneCount
 
   rules : isDelivered (wordAt product c i) ≡ true → ByTheRules s m c i
   rules h = delivered-rules s m c i deliver (scene s m c i deliver) refl (sym word-delivered ∙ h)
 
   delivers : ByTheRules s m c i → isDelivered (wordAt product c i) ≡ true
-  delivers h = word-delivered ∙ ap delivered (rules-scene s m c i deliver h)
+  delivers h = word-delivered ∙ ap sceneDelivered (rules-scene s m c i deliver h)
 
   -- the f32 is that of the delivered temperature
   float-is : (h : ByTheRules s m c i) → ofBits binary32 (wordAt product c i) ≡ kelvin (natAbs (deliver (temperatureOf ofChannel sceneCount)))
@@ -295,12 +295,12 @@ module _ (s : Settings) (bias : List ℕ) (m : Moment) (c i : ℕ) (range : Sett
   near-e h = near-of-distance (exactly h) (biased-distance (c0In (biasPart bias c) i) (e-bounded pair) (ltZ-yes tt) (temperature-near s m c range below h))
 
   -- E by the equations
-  rise-above : (h : ByTheRules s m c i) → pos 0 <ℤ (unroundedTw (pos (sums .weighted)) (pos (sums .weights)) (s .channel c .b) -ᶠ whole (Tc (s .channel c))) .num
+  rise-above : (h : ByTheRules s m c i) → pos 0 <ℤ (unroundedTw (pos (sums .sumVPT)) (pos (sums .sumVP)) (s .channel c .b) -ᶠ whole (Tc (s .channel c))) .num
   rise-above h =
       let row = range .channel c below in
-      let least : leastKelvin * sums .weights ≤ sums .weighted = omega (arith, mean-at s m c below .weighted-low) in
+      let least : leastKelvin * sums .sumVP ≤ sums .sumVPT = omega (arith, mean-at s m c below .weighted-low) in
       let cold : 11166 + s .channel c .rj + s .channel c .sl ≤ 43934 = omega (arith, row .rj, row .sl) in
-      lt-by ((pos (sums .weighted)) ∷ (pos (sums .weights)) ∷ (s .channel c .b) ∷ (Tc (s .channel c)) ∷ [])
+      lt-by ((pos (sums .sumVPT)) ∷ (pos (sums .sumVP)) ∷ (s .channel c .b) ∷ (Tc (s .channel c)) ∷ [])
       ((# 0 :< v1) ∷ (# 873062 :* v1 :≤ v0) ∷ (opp (# 4096) :≤ v2) ∷ (v3 :≤ # 43934) ∷ [])
       (# 0) ((v0 :* # 1 :+ v2 :* v1) :* # 1 :- v3 :* (v1 :* # 1))
       (hyp 0 ⊕ nat 825032 ⊗ hyp 1 ⊕ hyp 2 ⊕ hyp 3 ⊕ hyp 4 ⊕ hyp 1 ⊗ hyp 3 ⊕ hyp 1 ⊗ hyp 4)
@@ -309,7 +309,7 @@ module _ (s : Settings) (bias : List ℕ) (m : Moment) (c i : ℕ) (range : Sett
   by-equations : (h : ByTheRules s m c i) → Equal (equationsAt s m c i) (eAt s m c i)
   by-equations h =
       let z = rules-flag-zero s m c i h in
-      corrected-same (pos (sums .aw)) (pos (sums .ac)) (pos sceneCount) (Tc (s .channel c)) (unroundedTw (pos (sums .weighted)) (pos (sums .weights)) (s .channel c .b)) (unroundedTnlAt s m c)
+      corrected-same (pos (sums .Aw)) (pos (sums .Ac)) (pos sceneCount) (Tc (s .channel c)) (unroundedTw (pos (sums .sumVPT)) (pos (sums .sumVP)) (s .channel c .b)) (unroundedTnlAt s m c)
       (natural-below (flag-zero-warm-above range (targetOf c) sums z)) (natural-below (flag-zero-cold-above range (targetOf c) sums z)) (h .warmAboveCold)
       (product-above (weights-above s m c range below h) one-above) (rise-above h) (tnl-above s m c range below)
 
@@ -322,5 +322,5 @@ module _ (s : Settings) (bias : List ℕ) (m : Moment) (range : SettingsRange s)
   delivered-in =
       delivered-count (byBias bias) (channelsAt s m) (earthCounts (m .scan))
       ∙ sum-same _ _ channels (λ c below. count-same _ _ positions (λ i inside.
-      ap (λ (channel : Channel). delivered (sceneAt (byBias bias c) channel (earthPart (earthCounts (m .scan)) c) i)) (getD-tabulate (λ c. stateOf s c (shelfAt s m c) (meansAt s m c)) channels c noChannel below)
+      ap (λ (channel : Channel). sceneDelivered (sceneAt (byBias bias c) channel (earthPart (earthCounts (m .scan)) c) i)) (getD-tabulate (λ c. channelStateOf s c (shelfAt s m c) (meansAt s m c)) channels c noChannel below)
       ∙ sym (word-delivered s bias m c i range file below inside rest)))

@@ -8,7 +8,6 @@ use lib.IntN.{ℤ, pos}
 use lib.Signed.{_<ℤ_}
 use lib.ListN.{length}
 use Rattle.lists.specs.Tests.{passes}
-use Rattle.record.specs.Record.{scanNumber}
 use Rattle.product.specs.Product.{productSize}
 use Rattle.table.specs.declared.Table.{Table}
 use Rattle.table.specs.Settings.{Settings, settingsOf}
@@ -20,7 +19,7 @@ use Rattle.lookup.specs.Lookup.{Found, foundCount, noCount, lookupVerdict, foun
 use Rattle.calibrator.specs.declared.Calibrator.{Calibrator}
 use Rattle.calibrator.specs.Feeding.{Feed, freshOf, step, calibratorAfter, OfBytes, AllOfBytes}
 use Rattle.promise.specs.Roll.{Roll, verdictAt}
-use Rattle.promise.specs.Restart.{rolledBy, recent, feedsOf}
+use Rattle.promise.specs.Restart.{rolledBy, windowFeeds}
 use Rattle.promise.specs.Outcomes.{fedMoment}
 use Rattle.promise.specs.Promise.{Alike}
 use Rattle.promise.specs.SameScenes.{flagAt, sceneBeforeBias, FedChannel, fedFlag, fedScene}
@@ -49,12 +48,15 @@ CountsBehind =
     (table : Table) → AcceptedTable (table .bytes) → (bias : Bias) → AcceptedBias (bias .bytes) → (feeds others : List Feed)
     → CountsClaim (freshOf table bias) (settingsOf ages (table .bytes)) feeds others
 
+-- what a fresh calibrator answers that was fed a list of feeds and then one feed more
+abbrev pub answerAfter : Table → Bias → List Feed → Feed → (channel wanted : ℕ) → Found
+answerAfter table bias feeds feed = answerOf (step (calibratorAfter (freshOf table bias) feeds) feed .calibrator)
+
 -- ---- a calibrator that is fed the accepted records of the last scan's window, and then this scan, answers the same
 abbrev pub SameAfterRestart : Type 0
 SameAfterRestart =
     (table : Table) (bias : Bias) (before : List Feed) (feed : Feed) (buffer : List ℕ) → productSize ≤ length buffer → verdictAt (rolledBy [] before) feed ≡ passes
-    → let after : List Feed → Calibrator = λ feeds. step (calibratorAfter (freshOf table bias) feeds) feed .calibrator in
-    (channel wanted : ℕ) → answerOf (after before) channel wanted ≡ answerOf (after (feedsOf buffer (recent (scanNumber (feed .scan)) (rolledBy [] before)))) channel wanted
+    → (channel wanted : ℕ) → answerAfter table bias before feed channel wanted ≡ answerAfter table bias (windowFeeds before feed buffer) feed channel wanted
 
 -- ---- a channel of feeds whose records are of bytes
 abbrev pub FedBytes : FedChannel → Type 0
@@ -75,4 +77,4 @@ pub record AnswerSays (f : FedChannel) (answer : Found) (wanted : ℕ) : Type 0 
 abbrev pub AnswersSay : Type 0
 AnswersSay =
     (f : FedChannel) → FedBytes f → fedFlag f ≡ 0 → (bias : Bias) (wanted : ℕ)
-    → AnswerSays f (answerOf (step (calibratorAfter (freshOf (record { bytes = f .table }) bias) (f .before)) (f .feed) .calibrator) (f .channel + 1) wanted) wanted
+    → AnswerSays f (answerAfter (record { bytes = f .table }) bias (f .before) (f .feed) (f .channel + 1) wanted) wanted

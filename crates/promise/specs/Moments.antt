@@ -21,7 +21,7 @@ use Rattle.record.specs.Record.{scanNumber, earthCounts, earthPart, shelfTemper
 use Rattle.nonlinearity.specs.Interpolation.{unroundedTnl, tnlOf}
 use Rattle.window.specs.declared.Means.{Means}
 use Rattle.scene.specs.declared.Channel.{Channel}
-use Rattle.window.specs.Means.{Tw, Tc, D, tooFewThermometers, tooFewCounts, stateOf}
+use Rattle.window.specs.Means.{Tw, Tc, D, tooFewThermometers, tooFewCounts, channelStateOf}
 use Rattle.scene.specs.declared.Scene.the-variants.{Flagged, Outside, Guard}
 use Rattle.scene.specs.Scene.{bits, unitsOf}
 use Rattle.scene.specs.Temperature.{N, temperature}
@@ -62,13 +62,13 @@ module _ (s : Settings) (m : Moment) where
   dAt c = D (meansAt c)
 
   abbrev pub nOf : ℕ → ℤ → ℤ
-  nOf c count = let sums = meansAt c in N (pos (sums .ww)) (pos (sums .wc)) (pos (sums .ac)) count
+  nOf c count = let sums = meansAt c in N (pos (sums .Ww)) (pos (sums .Wc)) (pos (sums .Ac)) count
 
   abbrev pub tOf : ℕ → ℤ → ℤ
   tOf c count = let channel = s .channel c in temperature (Tc channel) (Tw (meansAt c) channel -ℤ Tc channel) (tnlAt c) (dAt c) (nOf c count)
 
   abbrev pub channelsAt : List Channel
-  channelsAt = tabulate (λ c. stateOf s c (shelfAt c) (meansAt c)) channels
+  channelsAt = tabulate (λ c. channelStateOf s c (shelfAt c) (meansAt c)) channels
 
   abbrev pub productAt : (ℕ → Deliver) → List ℕ
   productAt deliver = productOf deliver (currentNumber m) channelsAt (earthCounts (m .scan))
@@ -85,7 +85,7 @@ module _ (s : Settings) (m : Moment) (c i : ℕ) where
   tAt = tOf s m c countAt
 
   abbrev pub unroundedTwAt : Fraction
-  unroundedTwAt = let sums = meansAt s m c in unroundedTw (pos (sums .weighted)) (pos (sums .weights)) (s .channel c .b)
+  unroundedTwAt = let sums = meansAt s m c in unroundedTw (pos (sums .sumVPT)) (pos (sums .sumVP)) (s .channel c .b)
 
   abbrev pub eAt : Fraction
   eAt = E (nAt /ᶠ dAt s m c) unroundedTwAt (whole (Tc (s .channel c))) (unroundedTnlAt s m c)
@@ -93,7 +93,7 @@ module _ (s : Settings) (m : Moment) (c i : ℕ) where
   -- T by equations 25 to 29, one by one, from the mean counts, the unrounded Tw and the unrounded TNL
   abbrev pub equationsAt : Fraction
   equationsAt =
-      let sums = meansAt s m c in corrected (meanCount (pos (sums .aw)) (pos (sums .ww))) (meanCount (pos (sums .ac)) (pos (sums .wc))) unroundedTwAt (whole (Tc (s .channel c))) (unroundedTnlAt s m c) (whole countAt)
+      let sums = meansAt s m c in corrected (meanCount (pos (sums .Aw)) (pos (sums .Ww))) (meanCount (pos (sums .Ac)) (pos (sums .Wc))) unroundedTwAt (whole (Tc (s .channel c))) (unroundedTnlAt s m c) (whole countAt)
 
   -- with scan bias: what is delivered for T, and equation 30 over E
   abbrev pub deliveredAt : (bias : List ℕ) → ℤ
@@ -104,9 +104,9 @@ module _ (s : Settings) (m : Moment) (c i : ℕ) where
 
   -- the three weight sums suffice, the mean warm count is above the mean cold, the scene lies from 0 to 1.25, and the guard passes
   pub record ByTheRules : Type 0 where
-    pub thermometers : tooFewThermometers s (targetOf c) (meansAt s m c .weights) ≡ false
-    pub warm : tooFewCounts s Warm (meansAt s m c .ww) ≡ false
-    pub cold : tooFewCounts s Cold (meansAt s m c .wc) ≡ false
+    pub thermometers : tooFewThermometers s (targetOf c) (meansAt s m c .sumVP) ≡ false
+    pub warm : tooFewCounts s Warm (meansAt s m c .Ww) ≡ false
+    pub cold : tooFewCounts s Cold (meansAt s m c .Wc) ≡ false
     pub warmAboveCold : pos 0 <ℤ dAt s m c
     pub notBelow : pos 0 ≤ℤ nAt
     pub notAbove : (pos 4 *ℤ nAt) ≤ℤ (pos 5 *ℤ dAt s m c)

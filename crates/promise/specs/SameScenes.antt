@@ -39,7 +39,7 @@ module _ (s : Settings) (m : Moment) (c : ℕ) where
   abbrev pub sixNumbers : List ℤ
   sixNumbers =
       let channel = s .channel c in let sums = meansAt s m c in
-      Tc channel ∷ (Tw sums channel -ℤ Tc channel) ∷ tnlAt s m c ∷ dAt s m c ∷ (pos 12 *ℤ pos (sums .wc) *ℤ pos (sums .ww)) ∷ (pos (sums .ac) *ℤ pos (sums .ww)) ∷ []
+      Tc channel ∷ (Tw sums channel -ℤ Tc channel) ∷ tnlAt s m c ∷ dAt s m c ∷ (pos 12 *ℤ pos (sums .Wc) *ℤ pos (sums .Ww)) ∷ (pos (sums .Ac) *ℤ pos (sums .Ww)) ∷ []
 
 -- ---- a channel of an accepted feed, under an accepted table, after a list of feeds from a fresh calibrator
 pub record FedChannel : Type 0 where

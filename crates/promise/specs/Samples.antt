@@ -63,4 +63,4 @@ module _ (s : Settings) (at : ℕ → AcceptedSamples) where
   sumVPT target = sum (λ k. s .v k * over (λ x. s .thermometer (firstOf target + x .place) .p * x .value) (thermometersIn (at k) target)) (s .ages)
 
   unfoldable pub sumsOf : ℕ → Means
-  sumsOf c = record { weights = sumVP (targetOf c); weighted = sumVPT (targetOf c); ww = W Warm c; aw = A Warm c; wc = W Cold c; ac = A Cold c }
+  sumsOf c = record { sumVP = sumVP (targetOf c); sumVPT = sumVPT (targetOf c); Ww = W Warm c; Aw = A Warm c; Wc = W Cold c; Ac = A Cold c }

@@ -3,8 +3,8 @@ use lib.IntN.{ℤ, pos, _*ℤ_}
 use Rattle.integers.specs.Fractions.{Fraction, _/ᶠ_, whole, _+ᶠ_, _-ᶠ_, _*ᶠ_, _÷ᶠ_}
 
 -- the unrounded Tw leaves out r: sum of v p T over sum of v p, and b
-abbrev pub unroundedTw : (weighted weights b : ℤ) → Fraction
-unroundedTw weighted weights b = weighted /ᶠ weights +ᶠ whole b
+abbrev pub unroundedTw : (sumVPT sumVP b : ℤ) → Fraction
+unroundedTw sumVPT sumVP b = sumVPT /ᶠ sumVP +ᶠ whole b
 
 -- E is Tc + x(Tw - Tc) + 4x(1 - x) TNL with Tw and, by request W4, TNL unrounded
 abbrev pub E : (x tw tc tnl : Fraction) → Fraction

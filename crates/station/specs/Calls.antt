@@ -5,7 +5,7 @@ use lib.ListN.{length}
 use lib.IntN.{ℤ}
 use Rattle.lists.specs.Build.{tabulate}
 use Rattle.lists.specs.Tests.{Verdict, passes, fails}
-use Rattle.thermometer.specs.Reading.{Result, units, refused}
+use Rattle.thermometer.specs.Reading.{Result, units, notRead}
 use Rattle.calibrator.specs.declared.Calibrator.{Calibrator}
 use Rattle.calibrator.specs.Feeding.{freshOf}
 use Rattle.feeds.specs.FeedList.{answerAt, buffersAt}
@@ -17,7 +17,7 @@ libraryVersion = 60000
 -- t, or what stood there before where there is none
 abbrev pub unitsOr : Result → ℤ → ℤ
 unitsOr (units t) before = t
-unitsOr (refused n) before = before
+unitsOr (notRead n) before = before
 
 -- ---- a list fed to a fresh calibrator under this table and this bias file; a refusal of either writes nothing
 abbrev pub freshUnder : (table bias : List ℕ) → Calibrator

@@ -22,7 +22,7 @@ use Rattle.instrument.specs.declared.Target.the-variants.{Kav, Wg}
 use Rattle.instrument.specs.Instrument.{thermometers, channels, sizeOf}
 use Rattle.table.specs.declared.Thermometer.{Thermometer}
 use Rattle.table.specs.declared.ShelfPair.{ShelfPair}
-use Rattle.table.specs.Settings.{pairs, Channel, Settings}
+use Rattle.table.specs.Settings.{pairs, ChannelSettings, Settings}
 use Rattle.table.specs.Ranges.{sizeTo, leastsInside, thermometerLimitsInside, thermometerInside, channelInside, pairInside, weightOf, sumsInside, valuesInside}
 use Rattle.table.specs.ValueRanges.{Between, ThermometerRange, ShelfPairsRange, ChannelRange, SettingsRange}
 
@@ -83,7 +83,7 @@ module _ (pair : ℕ → ShelfPair) (holds : every (pairInside pair) pairs ≡ t
   shelf-pairs-in-range : ShelfPairsRange pair
   shelf-pairs-in-range = record { shelf = λ j below. bounded (pair-test j below 0); tnl = λ j below. bounded (pair-test j below 1); rises = shelf-rises }
 
-channel-in-range : (c : Channel) → channelInside c ≡ true → every (pairInside (c .pair)) pairs ≡ true → ChannelRange c
+channel-in-range : (c : ChannelSettings) → channelInside c ≡ true → every (pairInside (c .pair)) pairs ≡ true → ChannelRange c
 unfolding channelInside
 channel-in-range c holds pairs-hold =
     let test = each-of-all (leb (c .limits Warm .low) (c .limits Warm .upp) ∷ leb (c .limits Cold .low) (c .limits Cold .upp) ∷ sizeTo 4096 (c .b) ∷ leb (c .rj) 16384 ∷ leb (c .sl) 16384 ∷ sizeTo 0 (c .tnl) ∷ []) holds in

@@ -13,7 +13,7 @@ use Rattle.instrument.specs.declared.Target.{Target}
 use Rattle.instrument.specs.declared.Target.the-variants.{Kav, Wg}
 use Rattle.table.specs.declared.Thermometer.{Thermometer}
 use Rattle.table.specs.declared.ShelfPair.{ShelfPair}
-use Rattle.table.specs.Settings.{pairs, Channel, Settings}
+use Rattle.table.specs.Settings.{pairs, ChannelSettings, Settings}
 use Rattle.instrument.specs.Instrument.{thermometers, channels, firstOf, sizeOf}
 
 -- from -m to m
@@ -36,7 +36,7 @@ abbrev pub thermometerInside : Thermometer → Bool
 thermometerInside t = coefficientsInside (t .r0) (t .alpha) (t .delta) (t .beta)
 
 -- limits with low not above upp; b -4,096..4,096; rj and sl 0..16,384; TNL 0 (request W4)
-unfoldable pub channelInside : Channel → Bool
+unfoldable pub channelInside : ChannelSettings → Bool
 channelInside c =
     allHold (leb (c .limits Warm .low) (c .limits Warm .upp) ∷ leb (c .limits Cold .low) (c .limits Cold .upp)
     ∷ sizeTo 4096 (c .b) ∷ leb (c .rj) 16384 ∷ leb (c .sl) 16384 ∷ sizeTo 0 (c .tnl) ∷ [])

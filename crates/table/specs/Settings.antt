@@ -35,7 +35,7 @@ abbrev pub shelfPairsRow : ℕ
 shelfPairsRow = pairs * shelfPairSize
 
 -- one channel's row of 0x12, and its pairs in 0x14. TNL in 0x12 has to be 0: a scan's TNL comes from the pairs
-pub record Channel : Type 0 where
+pub record ChannelSettings : Type 0 where
   pub limits : Side → Limits
   pub b : ℤ
   pub rj : ℕ
@@ -58,7 +58,7 @@ pub record Settings : Type 0 where
   pub tUpp : ℤ
   pub dT : ℕ
   pub thermometer : ℕ → Thermometer
-  pub channel : ℕ → Channel
+  pub channel : ℕ → ChannelSettings
 
 -- ---- where each value stands
 abbrev pub limitsAt : List ℕ → ℕ → Limits
@@ -72,7 +72,7 @@ abbrev pub shelfPairAt : List ℕ → ℕ → ShelfPair
 shelfPairAt table at = record { shelf = i32At table at; tnl = i16At table (at + 4) }
 
 -- the row of 0x12 at `at`, that of 0x14 at `first`
-abbrev pub channelAt : List ℕ → (at first : ℕ) → Channel
+abbrev pub channelAt : List ℕ → (at first : ℕ) → ChannelSettings
 channelAt table at first = record {
   limits = λ side. limitsAt table (at + 6 * sidePlace side);
   b = i16At table (at + 12);
@@ -101,5 +101,5 @@ settingsOf ages table =
     }
 
 -- b, rj, sl and TNL of a channel's row of 0x12
-abbrev pub correctionsOf : Channel → Corrections
+abbrev pub correctionsOf : ChannelSettings → Corrections
 correctionsOf c = record { b = c .b; rj = c .rj; sl = c .sl; tnl = c .tnl }

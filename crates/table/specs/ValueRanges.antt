@@ -9,7 +9,7 @@ use Rattle.instrument.specs.declared.Side.{Side}
 use Rattle.instrument.specs.declared.Target.{Target}
 use Rattle.table.specs.declared.Thermometer.{Thermometer}
 use Rattle.table.specs.declared.ShelfPair.{ShelfPair}
-use Rattle.table.specs.Settings.{pairs, Channel, Settings}
+use Rattle.table.specs.Settings.{pairs, ChannelSettings, Settings}
 use Rattle.instrument.specs.Instrument.{thermometers, channels, sizeOf}
 use Rattle.table.specs.Ranges.{weightOf}
 
@@ -25,7 +25,7 @@ pub record ShelfPairsRange (pair : ℕ → ShelfPair) : Type 0 where
   pub tnl : (j : ℕ) → j < pairs → Bounded (pair j .tnl) (pos 8192)
   pub rises : (j : ℕ) → j + 1 < pairs → pair j .shelf <ℤ pair (j + 1) .shelf
 
-pub record ChannelRange (c : Channel) : Type 0 where
+pub record ChannelRange (c : ChannelSettings) : Type 0 where
   pub limits : (side : Side) → c .limits side .low ≤ c .limits side .upp
   pub b : Bounded (c .b) (pos 4096)
   pub rj : c .rj ≤ 16384

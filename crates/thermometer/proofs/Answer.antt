@@ -7,7 +7,7 @@ use native.Mathlib.Omega.{arith}
 use lib.IntN.{ℤ}
 use lib.Signed.{_≤ℤ_, _<ℤ_, leZ, clashℤ}
 use Rattle.integers.proofs.Order.{at-most-trans, leZ-true, at-most-test}
-use Rattle.thermometer.specs.Rule.{F, lowest, unitsAt, greatest, answer, Greatest}
+use Rattle.thermometer.specs.Rule.{F, lowestUnits, unitsAtPlace, greatest, answer, Greatest}
 use Rattle.thermometer.specs.Steps.{AllReachedBefore}
 use Rattle.thermometer.specs.Ranges.{Admissible}
 use Rattle.thermometer.proofs.Rises.{rises-over}
@@ -52,32 +52,32 @@ greatest-last holds (suc n) = last-step holds n (greatest holds n) (holds (suc n
 module _ (alpha delta beta : ℕ) (m : ℤ) where
   -- place k is reached
   abbrev isReached : ℕ → Bool
-  isReached k = leZ (F alpha delta beta (unitsAt k)) m
+  isReached k = leZ (F alpha delta beta (unitsAtPlace k)) m
 
   -- the place of the answer
   place : Last isReached 491520 (greatest isReached 491520)
   place = greatest-last isReached 491520
 
   -- a place that is reached, and none after it, is the answer's
-  pub answer-is : {k : ℕ} → k ≤ 491520 → F alpha delta beta (unitsAt k) ≤ℤ m
-      → ((j : ℕ) → j ≤ 491520 → F alpha delta beta (unitsAt j) ≤ℤ m → j ≤ k) → answer alpha delta beta m ≡ unitsAt k
+  pub answer-is : {k : ℕ} → k ≤ 491520 → F alpha delta beta (unitsAtPlace k) ≤ℤ m
+      → ((j : ℕ) → j ≤ 491520 → F alpha delta beta (unitsAtPlace j) ≤ℤ m → j ≤ k) → answer alpha delta beta m ≡ unitsAtPlace k
   unfolding answer
   answer-is {k} h reached last =
       let here = at-most-test reached in
       let same : greatest isReached 491520 ≡ k
       = omega (arith, place .most k h here, last (greatest isReached 491520) (place .at-most) (leZ-true (place .passes k h here))) in
-      ap unitsAt same
+      ap unitsAtPlace same
 
-  pub answer-greatest : F alpha delta beta lowest ≤ℤ m → Greatest alpha delta beta m (answer alpha delta beta m)
+  pub answer-greatest : F alpha delta beta lowestUnits ≤ℤ m → Greatest alpha delta beta m (answer alpha delta beta m)
   unfolding answer
   answer-greatest low = record {
     inside = place-in-range (place .at-most);
     reached = leZ-true (place .passes 0 (omega arith) (at-most-test low));
-    most = λ u range h. subst (λ t. t ≤ℤ unitsAt (greatest isReached 491520)) (place-of range) (units-order (place .most (placeOf u) (place-at-most range) (at-most-test (subst (λ t. F alpha delta beta t ≤ℤ m) (sym (place-of range)) h))));
+    most = λ u range h. subst (λ t. t ≤ℤ unitsAtPlace (greatest isReached 491520)) (place-of range) (units-order (place .most (placeOf u) (place-at-most range) (at-most-test (subst (λ t. F alpha delta beta t ≤ℤ m) (sym (place-of range)) h))));
   }
 
 -- ---- F rises, so one place that isn't reached bounds all that are
-pub reached-before : {alpha delta beta : ℕ} {m : ℤ} → Admissible alpha delta beta → (past : ℕ) → past ≤ 491520 → m <ℤ F alpha delta beta (unitsAt past) → AllReachedBefore alpha delta beta m past
+pub reached-before : {alpha delta beta : ℕ} {m : ℤ} → Admissible alpha delta beta → (past : ℕ) → past ≤ 491520 → m <ℤ F alpha delta beta (unitsAtPlace past) → AllReachedBefore alpha delta beta m past
 reached-before admissible past inside above j h reached = go (decLt j past)
   where
     go : Dec (j < past) → j < past

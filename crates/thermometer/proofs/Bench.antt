@@ -6,7 +6,7 @@ use native.Mathlib.Omega.{arith}
 use lib.IntN.{ℤ, pos}
 use lib.Signed.{_≤ℤ_, _<ℤ_, leZ-yes, ltZ-yes}
 use Rattle.integers.specs.Rounding.{floor}
-use Rattle.thermometer.specs.Rule.{M, q, s1, y, w, h, s2, F, unitsAt, answer}
+use Rattle.thermometer.specs.Rule.{M, q, s1, y, w, h, s2, F, unitsAtPlace, answer}
 use Rattle.thermometer.specs.Ranges.{Admissible}
 use Rattle.thermometer.specs.Reading.{units, reading}
 use Rattle.thermometer.proofs.Answer.{reached-before, answer-is}
@@ -27,8 +27,8 @@ admissible : Admissible 3850000 1500000 0
 admissible = omega arith
 
 -- place k is reached and the next is not
-pub answer-at-place : (k : ℕ) (m : ℤ) {here next : ℤ} → k < 491520 → F 3850000 1500000 0 (unitsAt k) ≡ here → F 3850000 1500000 0 (unitsAt (k + 1)) ≡ next
-    → here ≤ℤ m → m <ℤ next → answer 3850000 1500000 0 m ≡ unitsAt k
+pub answer-at-place : (k : ℕ) (m : ℤ) {here next : ℤ} → k < 491520 → F 3850000 1500000 0 (unitsAtPlace k) ≡ here → F 3850000 1500000 0 (unitsAtPlace (k + 1)) ≡ next
+    → here ≤ℤ m → m <ℤ next → answer 3850000 1500000 0 m ≡ unitsAtPlace k
 answer-at-place k m inside is-here is-next reached not-reached =
     answer-is 3850000 1500000 0 m {k = k} (omega arith)
     (subst (λ f. f ≤ℤ m) (sym is-here) reached)

@@ -11,7 +11,7 @@ use Rattle.integers.proofs.Order.{at-most-antisym, at-most-or-above}
 use Rattle.integers.proofs.Certificate.{_:≤_, _:<_, hyp, nat, _⊕_, _⊗_, le-by, lt-by, clash-by}
 use Rattle.integers.proofs.Floor.{floor-low, floor-high}
 use Rattle.integers.proofs.Fractions.{product-above, below-same-left, below-same-right}
-use Rattle.thermometer.specs.Rule.{one, M, F, highest, InRange, Greatest}
+use Rattle.thermometer.specs.Rule.{one, M, F, highestUnits, InRange, Greatest}
 use Rattle.thermometer.specs.Ranges.{Admissible}
 use Rattle.thermometer.specs.Equations.{AnswersBracketed}
 use Rattle.thermometer.proofs.ReadingLaws.{reading-units-answered}
@@ -47,17 +47,17 @@ module _ {alpha delta beta : ℕ} (admissible : Admissible alpha delta beta) {m 
   exact-next-outside : m ≤ℤ F alpha delta beta t → (part *ℤ m) ≤ℤ exact (t +ℤ pos 1)
   exact-next-outside within = (le-by ((exact (t +ℤ pos 1)) ∷ (exact t) ∷ (F alpha delta beta t) ∷ m ∷ []) ((v1 :+ # 12 :* # 1677721600000000000000000000000 :≤ v0) ∷ (# 6 :* (# 1677721600000000000000000000000 :* v2) :≤ # 6 :* v1 :+ # 1677721600000000000000000000000) ∷ (v3 :≤ v2) ∷ []) (# 1677721600000000000000000000000 :* v3) v0 (nat 6 ⊗ hyp 0 ⊕ nat 6 ⊗ hyp 1 ⊕ hyp 2 ⊕ nat 10066329600000000000000000000000 ⊗ hyp 3) tt (exact-rises admissible t refl next-at-most-past) (F-high admissible (answer .inside)) within)
 
-  exact-next : m ≤ℤ F alpha delta beta highest → (part *ℤ m) ≤ℤ exact (t +ℤ pos 1)
-  exact-next within = by-place (at-most-or-above (t +ℤ pos 1) highest)
+  exact-next : m ≤ℤ F alpha delta beta highestUnits → (part *ℤ m) ≤ℤ exact (t +ℤ pos 1)
+  exact-next within = by-place (at-most-or-above (t +ℤ pos 1) highestUnits)
     where
-      by-place : ((t +ℤ pos 1) ≤ℤ highest) ⊎ (highest <ℤ (t +ℤ pos 1)) → (part *ℤ m) ≤ℤ exact (t +ℤ pos 1)
+      by-place : ((t +ℤ pos 1) ≤ℤ highestUnits) ⊎ (highestUnits <ℤ (t +ℤ pos 1)) → (part *ℤ m) ≤ℤ exact (t +ℤ pos 1)
       by-place (inl inside) = exact-next-inside (record { low = (le-by (t ∷ []) ((opp (# 245760) :≤ v0) ∷ []) (opp (# 245760)) (v0 :+ # 1) (hyp 0 ⊕ hyp 1) tt (answer .inside .low)); high = inside })
       by-place (inr outside) =
-          let last : highest ≡ t
+          let last : highestUnits ≡ t
           = at-most-antisym (le-by (t ∷ []) ((# 245760 :< v0 :+ # 1) ∷ []) (# 245760) v0 (hyp 0 ⊕ hyp 1) tt outside) (answer .inside .high) in
           exact-next-outside (subst (λ u. m ≤ℤ F alpha delta beta u) last within)
 
-  exact-second : m ≤ℤ F alpha delta beta highest → (part *ℤ (m +ℤ pos 1)) ≤ℤ exact (t +ℤ pos 2)
+  exact-second : m ≤ℤ F alpha delta beta highestUnits → (part *ℤ (m +ℤ pos 1)) ≤ℤ exact (t +ℤ pos 2)
   exact-second within = (le-by ((exact (t +ℤ pos 2)) ∷ (exact (t +ℤ pos 1)) ∷ m ∷ []) ((v1 :+ # 12 :* # 1677721600000000000000000000000 :≤ v0) ∷ (# 1677721600000000000000000000000 :* v2 :≤ v1) ∷ []) (# 1677721600000000000000000000000 :* (v2 :+ # 1)) v0 (hyp 0 ⊕ hyp 1 ⊕ hyp 2) tt (exact-rises admissible (t +ℤ pos 1) (ring (t ∷ []) (v0 :+ # 1 :+ # 1) (v0 :+ # 2) tt) second-at-most-past) (exact-next within))
 
 -- ---- the measured ratio n / d: M is the floor of 2^24 n / d

@@ -11,7 +11,7 @@ use Rattle.integers.proofs.Ring.{_:+_, _:-_, _:*_, opp, ring, #, v0, v1, v2}
 use Rattle.integers.proofs.EqualFractions.{same-trans}
 use Rattle.integers.specs.Rounding.{floor}
 use Rattle.integers.specs.Fractions.{Fraction, _/ᶠ_, whole, _+ᶠ_, _-ᶠ_, _*ᶠ_, Equal, Below}
-use Rattle.thermometer.specs.Rule.{M, q, s1, y, w, h, s2, F, lowest, highest, unitsAt}
+use Rattle.thermometer.specs.Rule.{M, q, s1, y, w, h, s2, F, lowestUnits, highestUnits, unitsAtPlace}
 use Rattle.thermometer.specs.Reading.{Result, units, reading}
 use Rattle.thermometer.specs.Equations.{measuredRatio, equationRatio}
 use Rattle.thermometer.proofs.Answer.{answer-is}
@@ -50,11 +50,11 @@ abbrev FAt : ℤ → ℤ
 FAt t = F 3850000 1500000 0 t
 
 -- ---- t won't do for t - 1: the equation at the answered t is above the measured ratio
-F-at-place-38307 : FAt (unitsAt 38307) ≡ pos 13431839
+F-at-place-38307 : FAt (unitsAtPlace 38307) ≡ pos 13431839
 unfolding F s1 s2 h w y q floor
 F-at-place-38307 = refl
 
-F-at-place-38308 : FAt (unitsAt 38308) ≡ pos 13431855
+F-at-place-38308 : FAt (unitsAtPlace 38308) ≡ pos 13431855
 unfolding F s1 s2 h w y q floor
 F-at-place-38308 = refl
 
@@ -67,11 +67,11 @@ unfolding equationRatio
 above-at-t = record { left-above = ltZ-yes tt; right-above = ltZ-yes tt; below = ltZ-yes tt }
 
 -- ---- t + 1 won't do for t + 2: the equation there is not above the measured ratio
-F-at-place-151840 : FAt (unitsAt 151840) ≡ pos 15268824
+F-at-place-151840 : FAt (unitsAtPlace 151840) ≡ pos 15268824
 unfolding F s1 s2 h w y q floor
 F-at-place-151840 = refl
 
-F-at-place-151841 : FAt (unitsAt 151841) ≡ pos 15268841
+F-at-place-151841 : FAt (unitsAtPlace 151841) ≡ pos 15268841
 unfolding F s1 s2 h w y q floor
 F-at-place-151841 = refl
 
@@ -84,18 +84,18 @@ unfolding equationRatio
 below-at-next = record { left-above = ltZ-yes tt; right-above = ltZ-yes tt; below = ltZ-yes tt }
 
 -- ---- the ends of the range are answered
-F-at-place-0 : FAt (unitsAt 0) ≡ pos 12808666
+F-at-place-0 : FAt (unitsAtPlace 0) ≡ pos 12808666
 unfolding F s1 s2 h w y q floor
 F-at-place-0 = refl
 
-F-at-place-1 : FAt (unitsAt 1) ≡ pos 12808682
+F-at-place-1 : FAt (unitsAtPlace 1) ≡ pos 12808682
 unfolding F s1 s2 h w y q floor
 F-at-place-1 = refl
 
-pub reads-lowest : readingOf 30041 22935 ≡ units lowest
+pub reads-lowest : readingOf 30041 22935 ≡ units lowestUnits
 unfolding reading M F s1 s2 h w y q floor
 reads-lowest = ap units (answer-at-place 0 (pos 12808676) (omega arith) F-at-place-0 F-at-place-1 (leZ-yes tt) (ltZ-yes tt))
 
-pub reads-highest : readingOf 30402 37467 ≡ units highest
+pub reads-highest : readingOf 30402 37467 ≡ units highestUnits
 unfolding reading M F s1 s2 h w y q floor
 reads-highest = ap units (answer-is 3850000 1500000 0 (pos 20676006) {k = 491520} (omega arith) (leZ-yes tt) (λ j inside also. inside))

@@ -10,3 +10,4 @@ pub mod Bracketing
 pub mod Search
 pub mod Bench
 pub mod EquationRows
+pub mod Plain

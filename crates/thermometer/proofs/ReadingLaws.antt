@@ -12,39 +12,39 @@ use Rattle.lists.proofs.Tests.{none-applies}
 use Rattle.integers.proofs.Linear.{order, difference-parts}
 use Rattle.integers.proofs.Naturals.{natural-below}
 use Rattle.integers.proofs.Order.{ltZ-false, below-test, at-most-fails}
-use Rattle.thermometer.specs.Rule.{M, F, answer, lowest, highest, InRange, Greatest}
-use Rattle.thermometer.specs.Reading.{units, refused, resistanceInside, coefficientsInside, tests, resultBy, reading}
+use Rattle.thermometer.specs.Rule.{M, F, answer, lowestUnits, highestUnits, InRange, Greatest}
+use Rattle.thermometer.specs.Reading.{units, notRead, resistanceInside, coefficientsInside, tests, resultBy, reading}
 use Rattle.thermometer.specs.Ranges.{Admissible}
 use Rattle.thermometer.proofs.Ranges.{both-true, coefficients-admissible}
 use Rattle.thermometer.proofs.Answer.{answer-greatest}
 
 -- ---- the result from the tests
 module _ (rPam r0 alpha delta beta pam offset count : ℕ) where
-  pub reading-coefficient-outside : (resistanceInside rPam && coefficientsInside r0 alpha delta beta) ≡ false → reading rPam r0 alpha delta beta pam offset count ≡ refused 8
+  pub reading-coefficient-outside : (resistanceInside rPam && coefficientsInside r0 alpha delta beta) ≡ false → reading rPam r0 alpha delta beta pam offset count ≡ notRead 8
   unfolding reading
   reading-coefficient-outside outside = rw outside
 
   module _ (inside : (resistanceInside rPam && coefficientsInside r0 alpha delta beta) ≡ true) where
-    pub reading-pam-not-above : pam ≤ offset → reading rPam r0 alpha delta beta pam offset count ≡ refused 9
+    pub reading-pam-not-above : pam ≤ offset → reading rPam r0 alpha delta beta pam offset count ≡ notRead 9
     unfolding reading
     reading-pam-not-above below = rw (inside, le-leb pam offset below)
 
     module _ (above : offset < pam) where
-      pub reading-count-below : count < offset → reading rPam r0 alpha delta beta pam offset count ≡ refused 10
+      pub reading-count-below : count < offset → reading rPam r0 alpha delta beta pam offset count ≡ notRead 10
       unfolding reading
       reading-count-below below = rw (inside, lt-leb pam offset above, lt-ltb count offset below)
 
       module _ (counted : offset ≤ count) where
-        pub reading-ratio-below : M rPam r0 pam offset count <ℤ F alpha delta beta lowest → reading rPam r0 alpha delta beta pam offset count ≡ refused 10
+        pub reading-ratio-below : M rPam r0 pam offset count <ℤ F alpha delta beta lowestUnits → reading rPam r0 alpha delta beta pam offset count ≡ notRead 10
         unfolding reading
         reading-ratio-below below = rw (inside, lt-leb pam offset above, le-ltb count offset counted, below-test below)
 
-        module _ (reached : F alpha delta beta lowest ≤ℤ M rPam r0 pam offset count) where
-          pub reading-ratio-above : F alpha delta beta highest <ℤ M rPam r0 pam offset count → reading rPam r0 alpha delta beta pam offset count ≡ refused 10
+        module _ (reached : F alpha delta beta lowestUnits ≤ℤ M rPam r0 pam offset count) where
+          pub reading-ratio-above : F alpha delta beta highestUnits <ℤ M rPam r0 pam offset count → reading rPam r0 alpha delta beta pam offset count ≡ notRead 10
           unfolding reading
           reading-ratio-above beyond = rw (inside, lt-leb pam offset above, le-ltb count offset counted, at-most-fails reached, below-test beyond)
 
-          pub reading-units : M rPam r0 pam offset count ≤ℤ F alpha delta beta highest → reading rPam r0 alpha delta beta pam offset count ≡ units (answer alpha delta beta (M rPam r0 pam offset count))
+          pub reading-units : M rPam r0 pam offset count ≤ℤ F alpha delta beta highestUnits → reading rPam r0 alpha delta beta pam offset count ≡ units (answer alpha delta beta (M rPam r0 pam offset count))
           unfolding reading
           reading-units within = rw (inside, lt-leb pam offset above, le-ltb count offset counted, at-most-fails reached, at-most-fails within)
 
@@ -59,7 +59,7 @@ pub record Answered (r0 alpha delta beta pam offset : ℕ) (m t : ℤ) : Type 0 
   pub admissible : Admissible alpha delta beta
   pub pam-above : pos 0 <ℤ (pos pam -ℤ pos offset)
   pub greatest : Greatest alpha delta beta m t
-  pub within : m ≤ℤ F alpha delta beta highest
+  pub within : m ≤ℤ F alpha delta beta highestUnits
 
 pub reading-units-answered : (rPam r0 alpha delta beta pam offset count : ℕ) {t : ℤ} → reading rPam r0 alpha delta beta pam offset count ≡ units t → Answered r0 alpha delta beta pam offset (M rPam r0 pam offset count) t
 unfolding reading

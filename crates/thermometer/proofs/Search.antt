@@ -20,9 +20,9 @@ use Rattle.integers.proofs.Order.{at-most-trans, leZ-true, ltZ-true, ltZ-false}
 use Rattle.integers.proofs.Certificate.{_:≤_, _:<_, hyp, _⊕_, _⊗_, le-by, lt-by}
 use Rattle.integers.proofs.Bounds.{bounded-sum, bounded-difference, bounded-product, bounded-weaker, number-bounded}
 use Rattle.integers.proofs.Floor.{floor-bounded}
-use Rattle.thermometer.specs.Rule.{one, F, lowest, unitsAt, InRange}
+use Rattle.thermometer.specs.Rule.{one, F, lowestUnits, unitsAtPlace, InRange}
 use Rattle.thermometer.specs.Ranges.{Admissible}
-use Rattle.thermometer.specs.Steps.{heldBetween, onLine, onChord, nearbyUnits, reachedAt, pastAt, AllReachedBefore, Encloses}
+use Rattle.thermometer.specs.Steps.{heldBetween, onLineThroughZero, onChord, nearbyUnits, reachedAt, pastAt, AllReachedBefore, Encloses}
 use Rattle.thermometer.proofs.Bounds.{fits, t-bounded, F-bounded}
 use Rattle.thermometer.proofs.Rises.{rises-strictly}
 use Rattle.thermometer.proofs.Answer.{reached-before}
@@ -43,28 +43,28 @@ held-inside : (low high t : ℤ) → low ≤ℤ high → Inside low high (heldBe
 unfolding heldBetween
 held-inside low high t h = low-or low high t (ltZ t low) refl h
 
-lowest-in-range : InRange lowest
+lowest-in-range : InRange lowestUnits
 lowest-in-range = record { low = leZ-yes tt; high = leZ-yes tt }
 
 module _ (alpha : ℕ) (m : ℤ) where
-  line-inside : Inside lowest (pos 243712) (onLine alpha m)
-  unfolding onLine
-  line-inside = held-inside lowest (pos 243712) (floor ((m -ℤ one) *ℤ pos 240000) (pos alpha)) (leZ-yes tt)
+  line-inside : Inside lowestUnits (pos 243712) (onLineThroughZero alpha m)
+  unfolding onLineThroughZero
+  line-inside = held-inside lowestUnits (pos 243712) (floor ((m -ℤ one) *ℤ pos 240000) (pos alpha)) (leZ-yes tt)
 
-  pub line-in-range : InRange (onLine alpha m)
+  pub line-in-range : InRange (onLineThroughZero alpha m)
   line-in-range = let h = line-inside in record { low = h .0; high = omega (arith, order) }
 
-  pub chord-end-in-range : InRange (onLine alpha m +ℤ pos 2048)
+  pub chord-end-in-range : InRange (onLineThroughZero alpha m +ℤ pos 2048)
   chord-end-in-range =
       let h = line-inside in
-      record { low = omega (arith, order, sum-parts (onLine alpha m) (pos 2048)); high = omega (arith, order, sum-parts (onLine alpha m) (pos 2048)) }
+      record { low = omega (arith, order, sum-parts (onLineThroughZero alpha m) (pos 2048)); high = omega (arith, order, sum-parts (onLineThroughZero alpha m) (pos 2048)) }
 
 module _ (alpha delta beta : ℕ) (m : ℤ) where
-  chord-inside : (t : ℤ) → Inside lowest (pos 245759) (onChord alpha delta beta m t)
+  chord-inside : (t : ℤ) → Inside lowestUnits (pos 245759) (onChord alpha delta beta m t)
   unfolding onChord
   chord-inside t =
       let f = F alpha delta beta t in
-      held-inside lowest (pos 245759) (t +ℤ floor ((m -ℤ f) *ℤ pos 2048) (F alpha delta beta (t +ℤ pos 2048) -ℤ f)) (leZ-yes tt)
+      held-inside lowestUnits (pos 245759) (t +ℤ floor ((m -ℤ f) *ℤ pos 2048) (F alpha delta beta (t +ℤ pos 2048) -ℤ f)) (leZ-yes tt)
 
   pub chord-in-range : (t : ℤ) → InRange (onChord alpha delta beta m t)
   chord-in-range t = let h = chord-inside t in record { low = h .0; high = at-most-trans (h .1) (leZ-yes tt) }
@@ -75,14 +75,14 @@ module _ (alpha delta beta : ℕ) (m : ℤ) where
 
   pub nearby-before-highest : nearbyUnits alpha delta beta m ≤ℤ pos 245759
   unfolding nearbyUnits
-  nearby-before-highest = last-or (ltZ (pos 22000000) m) (chord-inside (onLine alpha m) .1)
+  nearby-before-highest = last-or (ltZ (pos 22000000) m) (chord-inside (onLineThroughZero alpha m) .1)
 
 -- ---- each number fits an i64
 -- a floor is no larger than what is divided
 floor-no-larger : (a : ℤ) {b : ℤ} {n : ℕ} → pos 0 <ℤ b → Bounded a (pos n) → Bounded (floor a b) (pos n)
 floor-no-larger a {b} {n} above h = floor-bounded a above (bounded-weaker h (le-by (b ∷ (pos n) ∷ []) ((# 0 :< v0) ∷ (# 0 :≤ v1) ∷ []) v1 (v1 :* v0) (hyp 0 ⊕ hyp 1 ⊗ hyp 2) tt above (natural-not-negative n)))
 
-pub small-measured : {alpha delta beta : ℕ} {m : ℤ} → Admissible alpha delta beta → F alpha delta beta lowest ≤ℤ m → m ≤ℤ pos 22000000 → Bounded m (pos 22000000)
+pub small-measured : {alpha delta beta : ℕ} {m : ℤ} → Admissible alpha delta beta → F alpha delta beta lowestUnits ≤ℤ m → m ≤ℤ pos 22000000 → Bounded m (pos 22000000)
 small-measured admissible low high =
     let lowest-F = F-bounded lowest-in-range admissible in
     record { low = at-most-trans (leZ-yes tt) (at-most-trans (lowest-F .low) low); high = high }
@@ -124,8 +124,8 @@ module _ {alpha delta beta : ℕ} (admissible : Admissible alpha delta beta) {t 
 
 -- ---- the ends enclose the answer
 module _ {alpha delta beta : ℕ} (admissible : Admissible alpha delta beta) (m : ℤ) where
-  near-or-first : (near : ℕ) (b : Bool) → leZ (F alpha delta beta (unitsAt near)) m ≡ b → near ≤ 491520 → F alpha delta beta lowest ≤ℤ m
-      → (cond b near 0 ≤ 491520) × (F alpha delta beta (unitsAt (cond b near 0)) ≤ℤ m)
+  near-or-first : (near : ℕ) (b : Bool) → leZ (F alpha delta beta (unitsAtPlace near)) m ≡ b → near ≤ 491520 → F alpha delta beta lowestUnits ≤ℤ m
+      → (cond b near 0 ≤ 491520) × (F alpha delta beta (unitsAtPlace (cond b near 0)) ≤ℤ m)
   near-or-first near true e inside low = (inside, leZ-true e)
   near-or-first near false e inside low = (omega arith, low)
 
@@ -133,27 +133,27 @@ module _ {alpha delta beta : ℕ} (admissible : Admissible alpha delta beta) (m 
   all-places : AllReachedBefore alpha delta beta m 491521
   all-places j h reached = omega arith
 
-  after-or-end : (past : ℕ) (b : Bool) → ltZ m (F alpha delta beta (unitsAt past)) ≡ b → past ≤ 491520
+  after-or-end : (past : ℕ) (b : Bool) → ltZ m (F alpha delta beta (unitsAtPlace past)) ≡ b → past ≤ 491520
       → (cond b past 491521 ≤ 491521) × AllReachedBefore alpha delta beta m (cond b past 491521)
   after-or-end past true e inside = (omega arith, reached-before admissible past inside (ltZ-true e))
   after-or-end past false e inside = (omega arith, all-places)
 
   end-or-after : (near : ℕ) (b : Bool) → ltb 491518 near ≡ b
-      → let past = cond b 491521 (cond (ltZ m (F alpha delta beta (unitsAt (near + 2)))) (near + 2) 491521) in (past ≤ 491521) × AllReachedBefore alpha delta beta m past
+      → let past = cond b 491521 (cond (ltZ m (F alpha delta beta (unitsAtPlace (near + 2)))) (near + 2) 491521) in (past ≤ 491521) × AllReachedBefore alpha delta beta m past
   end-or-after near true e = (omega arith, all-places)
-  end-or-after near false e = after-or-end (near + 2) (ltZ m (F alpha delta beta (unitsAt (near + 2)))) refl (omega (arith, ltb-false 491518 near e))
+  end-or-after near false e = after-or-end (near + 2) (ltZ m (F alpha delta beta (unitsAtPlace (near + 2)))) refl (omega (arith, ltb-false 491518 near e))
 
   -- the place after `near` is one end, whichever it is
   module _ (near : ℕ) (inside : near + 1 ≤ 491520) where
-    pub enclosed-after : F alpha delta beta (unitsAt (near + 1)) ≤ℤ m → Encloses alpha delta beta m (near + 1) (pastAt alpha delta beta m near)
+    pub enclosed-after : F alpha delta beta (unitsAtPlace (near + 1)) ≤ℤ m → Encloses alpha delta beta m (near + 1) (pastAt alpha delta beta m near)
     unfolding pastAt
     enclosed-after reached =
         let past = end-or-after near (ltb 491518 near) refl in
         record { reached-inside = inside; is-reached = reached; past-inside = past .0; all-before = past .1 }
 
-    pub enclosed-before : F alpha delta beta lowest ≤ℤ m → m <ℤ F alpha delta beta (unitsAt (near + 1))
+    pub enclosed-before : F alpha delta beta lowestUnits ≤ℤ m → m <ℤ F alpha delta beta (unitsAtPlace (near + 1))
         → Encloses alpha delta beta m (reachedAt alpha delta beta m near) (near + 1)
     unfolding reachedAt
     enclosed-before low past =
-        let reached = near-or-first near (leZ (F alpha delta beta (unitsAt near)) m) refl (omega arith) low in
+        let reached = near-or-first near (leZ (F alpha delta beta (unitsAtPlace near)) m) refl (omega arith) low in
         record { reached-inside = reached .0; is-reached = reached .1; past-inside = omega arith; all-before = reached-before admissible (near + 1) inside past }

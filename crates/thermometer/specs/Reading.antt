@@ -8,24 +8,24 @@ use lib.Signed.{ltZ}
 use Rattle.lists.specs.Tests.{Verdict, passes, fails, Test, _when_, firstThatApplies}
 use Rattle.thermometer.specs.declared.Reading.{Reading}
 use Rattle.thermometer.specs.declared.Reading.the-variants.{Units, CoefficientOutside, PamNotAboveOffset, RatioOutside}
-use Rattle.thermometer.specs.Rule.{M, F, answer, lowest, highest}
+use Rattle.thermometer.specs.Rule.{M, F, answer, lowestUnits, highestUnits}
 
 -- what One thermometer gives: t in units of °C, or the number of its refusal
 pub data Result : Type 0 where
   units : ℤ → Result
-  refused : ℕ → Result
+  notRead : ℕ → Result
 
 -- the number of a result; 0, which is no refusal of document 01, beside a t
 abbrev pub number : Result → ℕ
 number (units t) = 0
-number (refused n) = n
+number (notRead n) = n
 
 -- document 01's number and value for each case of the code's answer
 abbrev pub resultOf : Reading → Result
 resultOf (Units t) = units t
-resultOf CoefficientOutside = refused 8
-resultOf PamNotAboveOffset = refused 9
-resultOf RatioOutside = refused 10
+resultOf CoefficientOutside = notRead 8
+resultOf PamNotAboveOffset = notRead 9
+resultOf RatioOutside = notRead 10
 
 -- ---- the ranges of R_PAM and R0 and of the coefficients (document 01, "The table")
 abbrev pub fromTo : ℕ → ℕ → ℕ → Bool
@@ -45,12 +45,12 @@ tests rPam r0 alpha delta beta pam offset count =
     let m = M rPam r0 pam offset count in
     (8 when not (resistanceInside rPam && coefficientsInside r0 alpha delta beta))
     ∷ (9 when leb pam offset)
-    ∷ (10 when ltb count offset) ∷ (10 when ltZ m (F alpha delta beta lowest)) ∷ (10 when ltZ (F alpha delta beta highest) m) ∷ []
+    ∷ (10 when ltb count offset) ∷ (10 when ltZ m (F alpha delta beta lowestUnits)) ∷ (10 when ltZ (F alpha delta beta highestUnits) m) ∷ []
 
 -- the answer where no test applies, and else the number alone
 abbrev pub resultBy : Verdict → ℤ → Result
 resultBy passes t = units t
-resultBy (fails n) t = refused n
+resultBy (fails n) t = notRead n
 
 unfoldable pub reading : (rPam r0 alpha delta beta pam offset count : ℕ) → Result
 reading rPam r0 alpha delta beta pam offset count =

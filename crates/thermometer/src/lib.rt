@@ -4,8 +4,8 @@ ghost use Prim.Native.Nat.{_≤_, _<_};
 ghost use lib.IntN.{pos, _+ℤ_};
 ghost use lib.Signed.{_≤ℤ_};
 ghost use Rattle.integers.specs.Bounds.{Bounded};
-ghost use Rattle.thermometer.specs.Rule.{M, q, s1, s2, F, answer, lowest, unitsAt, InRange};
-ghost use Rattle.thermometer.specs.Steps.{heldBetween, onLine, onChord, nearbyUnits, reachedAt, pastAt, Encloses};
+ghost use Rattle.thermometer.specs.Rule.{M, q, s1, s2, F, answer, lowestUnits, unitsAtPlace, InRange};
+ghost use Rattle.thermometer.specs.Steps.{heldBetween, onLineThroughZero, onChord, nearbyUnits, reachedAt, pastAt, Encloses};
 ghost use Rattle.thermometer.specs.Ranges.{Admissible};
 ghost use Rattle.thermometer.specs.Reading.{resistanceInside, coefficientsInside, resultOf, reading};
 use integers::floor_div;
@@ -61,7 +61,7 @@ fn ratio(alpha: u32, delta: u32, beta: u32, t: i64) -> i64
 // F at place k of the range of t.
 fn ratio_at(alpha: u32, delta: u32, beta: u32, k: u64) -> i64
     requires { ⌜ Admissible alpha delta beta × (k ≤ 491520) ⌝ }
-    ensures { λ f. ⌜ f ≡ F alpha delta beta (unitsAt k) ⌝ }
+    ensures { λ f. ⌜ f ≡ F alpha delta beta (unitsAtPlace k) ⌝ }
 {
     ratio(alpha, delta, beta, k as i64 - 245_760)
 }
@@ -82,7 +82,7 @@ fn held_between(low: i64, high: i64, t: i64) -> i64
 // Where a line through F(0) that rises by alpha / 240,000 a unit comes to m.
 fn on_line(alpha: u32, m: i64) -> i64
     requires { ⌜ (3000000 ≤ alpha) × Bounded m (pos 22000000) ⌝ }
-    ensures { λ t. ⌜ t ≡ onLine alpha m ⌝ }
+    ensures { λ t. ⌜ t ≡ onLineThroughZero alpha m ⌝ }
 {
     let t = floor_div((m - 16_777_216) * 240_000, alpha as i64);
     held_between(-245_760, 243_712, t)
@@ -101,8 +101,8 @@ fn on_chord(alpha: u32, delta: u32, beta: u32, m: i64, t: i64) -> i64
 
 // A place before the last and near that of the answer, by one step of the secant method: F is nearly a line. No F is above 22,000,000.
 fn nearby(alpha: u32, delta: u32, beta: u32, m: i64) -> u64
-    requires { ⌜ Admissible alpha delta beta × (F alpha delta beta lowest ≤ℤ m) ⌝ }
-    ensures { λ k. ⌜ unitsAt k ≡ nearbyUnits alpha delta beta m ⌝ }
+    requires { ⌜ Admissible alpha delta beta × (F alpha delta beta lowestUnits ≤ℤ m) ⌝ }
+    ensures { λ k. ⌜ unitsAtPlace k ≡ nearbyUnits alpha delta beta m ⌝ }
 {
     if 22_000_000 < m {
         return 491_519;
@@ -157,7 +157,7 @@ fn greatest_between(alpha: u32, delta: u32, beta: u32, m: i64, first: u64, end: 
 
 // The greatest t with F(t) at most m. The place after the guess is the lower end of the halving or the upper one, as F says.
 fn greatest_units(alpha: u32, delta: u32, beta: u32, m: i64) -> i64
-    requires { ⌜ Admissible alpha delta beta × (F alpha delta beta lowest ≤ℤ m) ⌝ }
+    requires { ⌜ Admissible alpha delta beta × (F alpha delta beta lowestUnits ≤ℤ m) ⌝ }
     ensures { λ t. ⌜ t ≡ answer alpha delta beta m ⌝ }
 {
     let near = nearby(alpha, delta, beta, m);

@@ -13,7 +13,7 @@ use Rattle.scene.specs.Ranges.{ConstantsRange}
 use Rattle.scene.specs.declared.Channel.{Channel}
 use Rattle.product.specs.Scenes.{noChannel}
 use Rattle.product.specs.Steps.{byPairs}
-use Rattle.product.specs.Ranges.{ChannelRange}
+use Rattle.product.specs.Ranges.{ChannelStateRange}
 use Rattle.product.specs.Product.{productOf, deliveredCount, productSize}
 use Rattle.instrument.specs.Instrument.{channels}
 use Rattle.comparison.specs.AlikeChannels.{alikeChannels}
@@ -27,9 +27,9 @@ constants-read-back : {tc rise tnl d slope base : ℤ} → SFits w64 tc → SFit
 constants-read-back h0 h1 h2 h3 h4 h5 = rw (reads-back h0, reads-back h1, reads-back h2, reads-back h3, reads-back h4, reads-back h5)
 
 module _ {k : Constants} (range : ConstantsRange k) where
-  each-in-range : (c : ℕ) → c < channels → ChannelRange (getD (alikeChannels k) c noChannel)
+  each-in-range : (c : ℕ) → c < channels → ChannelStateRange (getD (alikeChannels k) c noChannel)
   unfolding alikeChannels
-  each-in-range c h = subst ChannelRange (sym (getD-replicate channels c (record { flag = 0; constants = k }) noChannel h)) (record { constants = λ _. range })
+  each-in-range c h = subst ChannelStateRange (sym (getD-replicate channels c (record { flag = 0; constants = k }) noChannel h)) (record { constants = λ _. range })
 
 alike-channels-requires : tie.Need-alike-channels-requires
 alike-channels-requires c κs = search needs
@@ -39,7 +39,7 @@ write-product-requires c κs =
     let s = c .before .before .before .before .before in
     let back = constants-read-back (s .fits .tc) (s .fits .rise) (s .fits .tnl) (s .fits .d) (s .fits .slope) (s .fits .base) in
     let same = c .alike-channels .ensures ∙ ap alikeChannels back in
-    ((s .pre .0 .0, s .pre .0 .1, subst (λ (l : List Channel). (i : ℕ) → i < channels → ChannelRange (getD l i noChannel)) (sym same) (each-in-range (s .pre .0 .2))), s .pre .1)
+    ((s .pre .0 .0, s .pre .0 .1, subst (λ (l : List Channel). (i : ℕ) → i < channels → ChannelStateRange (getD l i noChannel)) (sym same) (each-in-range (s .pre .0 .2))), s .pre .1)
 
 same-length : tie.Need-same-length
 same-length c = search needs

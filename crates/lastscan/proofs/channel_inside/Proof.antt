@@ -1,4 +1,4 @@
--- `channel_inside` meets its contract: each return is what the tests before it make of `channelInside`.
+-- `channel_inside` meets its contract: each return is what the tests before it make of `channelNumbersInside`.
 use Prim.Native.Nat.{_-_}
 use native.Mathlib.Nat.{le-of-eq}
 use mathlib.Core.Path.{ap, _∙_}
@@ -6,7 +6,7 @@ use lib.ListN.{length, drop, length-drop}
 use lib.Seq.{take-all}
 use denote.Ref.{now}
 use borrow.Author.Tests.{eq-eqb, ne-eqb, le-leb, lt-leb}
-use Rattle.lastscan.specs.Numbers.{allZero, channelInside}
+use Rattle.lastscan.specs.Numbers.{allZero, channelNumbersInside}
 use borrow.Author.Needs.{needs}
 use Rattle.lastscan.proofs.channel_inside.Statement.{statement}
 use Rattle.lastscan.proofs.channel_inside.Tie as tie
@@ -18,14 +18,14 @@ constants-inside-requires : tie.Need-constants-inside-requires
 constants-inside-requires c κs = search needs
 
 returns : tie.Need-returns
-unfolding channelInside
+unfolding channelNumbersInside
 returns c = rw (eq-eqb _ _ (c .before .if1 .taken)) (c .constants-inside .ensures)
 
 shared-slice-read-if2 : tie.Need-shared-slice-read-if2
 shared-slice-read-if2 c = search needs
 
 returns-2 : tie.Need-returns-2
-unfolding channelInside
+unfolding channelNumbersInside
 returns-2 c = rw (ne-eqb _ _ (c .before .before .if1 .left), lt-leb _ _ (c .if2 .taken))
 
 sub-all-zero : tie.Need-sub-all-zero
@@ -41,7 +41,7 @@ all-zero-requires : tie.Need-all-zero-requires
 all-zero-requires c κs = search needs
 
 returns-3 : tie.Need-returns-3
-unfolding channelInside
+unfolding channelNumbersInside
 returns-3 c =
     let if2 = c .before .before in
     let if1 = if2 .before .before in

@@ -11,7 +11,7 @@ use Rattle.lists.proofs.Every.{every-none, every-more, every-ended}
 use Rattle.lists.proofs.Loops.{next-at-most, less-left, ended}
 use Rattle.instrument.specs.Instrument.{channels}
 use Rattle.table.proofs.Answers.{test-passed, test-failed}
-use Rattle.lastscan.specs.Numbers.{channelInside}
+use Rattle.lastscan.specs.Numbers.{channelNumbersInside}
 use Rattle.lastscan.proofs.NumberLaws.{insideAt, length-channel-part}
 use Rattle.lastscan.proofs.channels_inside.Statement.{statement}
 use Rattle.lastscan.proofs.channels_inside.Tie as tie
@@ -25,7 +25,7 @@ abbrev μ-loop : tie.MeasureT-loop
 -- the answer is the test of channel c's part
 answer-is-test : (c : tie.After-channel-inside Inv-loop μ-loop)
     → (let l = c .before .before .before in c .channel-inside .result ≡ insideAt (now (l .before .before .args .numbers)) (l .loop .c))
-answer-is-test c = c .channel-inside .ensures ∙ ap channelInside (c .before .part-of .ensures)
+answer-is-test c = c .channel-inside .ensures ∙ ap channelNumbersInside (c .before .part-of .ensures)
 
 loop-holds : tie.Need-loop-holds Inv-loop μ-loop
 loop-holds c = (omega arith, every-none _)

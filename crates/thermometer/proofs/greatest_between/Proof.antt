@@ -9,7 +9,7 @@ use mir.Syntax.{w64}
 use mir.Val.{toZ, ofZ}
 use Rattle.integers.proofs.Order.{leZ-true, leZ-false}
 use Rattle.integers.proofs.Machine.{small-fits, reads-back, result-reads-back, natural-reads-back}
-use Rattle.thermometer.specs.Rule.{F, unitsAt}
+use Rattle.thermometer.specs.Rule.{F, unitsAtPlace}
 use Rattle.thermometer.specs.Steps.{AllReachedBefore}
 use Rattle.thermometer.proofs.Bounds.{t-fits}
 use Rattle.thermometer.proofs.Places.{place-in-range}
@@ -19,7 +19,7 @@ use Rattle.thermometer.proofs.greatest_between.Tie as tie
 
 abbrev Inv-loop : tie.InvT-loop
 Inv-loop alpha delta beta m first end reached₀ past₀ reached past =
-    (reached < past) × (past ≤ 491521) × (F alpha delta beta (unitsAt reached) ≤ℤ toZ w64 m) × AllReachedBefore alpha delta beta (toZ w64 m) past
+    (reached < past) × (past ≤ 491521) × (F alpha delta beta (unitsAtPlace reached) ≤ℤ toZ w64 m) × AllReachedBefore alpha delta beta (toZ w64 m) past
 
 abbrev μ-loop : tie.MeasureT-loop
 μ-loop alpha delta beta m first end reached₀ past₀ reached past = past - reached
@@ -31,7 +31,7 @@ abbrev middle : tie.At-loop Inv-loop μ-loop → ℕ
 middle c = c .loop .reached + (c .loop .past - c .loop .reached) / 2
 
 reads-ratio : (c : tie.After-ratio-at Inv-loop μ-loop)
-    → toZ w64 (ofZ w64 (c .ratio-at .result)) ≡ F (c .before .before .before .args .alpha) (c .before .before .before .args .delta) (c .before .before .before .args .beta) (unitsAt (middle (c .before .before)))
+    → toZ w64 (ofZ w64 (c .ratio-at .result)) ≡ F (c .before .before .before .args .alpha) (c .before .before .before .args .delta) (c .before .before .before .args .beta) (unitsAtPlace (middle (c .before .before)))
 reads-ratio c = result-reads-back (c .ratio-at .result) (c .ratio-at .ok) ∙ c .ratio-at .ensures
 
 loop-holds : tie.Need-loop-holds Inv-loop μ-loop

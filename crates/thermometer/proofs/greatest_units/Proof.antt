@@ -9,7 +9,7 @@ use mir.Syntax.{w64}
 use mir.Val.{toZ, ofZ}
 use Rattle.integers.proofs.Machine.{reads-back, result-reads-back}
 use Rattle.integers.proofs.Order.{leZ-true, leZ-false}
-use Rattle.thermometer.specs.Rule.{F, unitsAt}
+use Rattle.thermometer.specs.Rule.{F, unitsAtPlace}
 use Rattle.thermometer.proofs.Places.{place-before-last}
 use Rattle.thermometer.proofs.Search.{nearby-before-highest, enclosed-after, enclosed-before}
 use Rattle.thermometer.proofs.greatest_units.Statement.{statement}
@@ -32,12 +32,12 @@ add-ratio-at c = record { fits = omega (arith, next-inside c) }
 ratio-at-requires : tie.Need-ratio-at-requires
 ratio-at-requires c κs = (c .before .pre .0, next-inside c)
 
-next-reached : (c : tie.Then1) → let s = c .before .before .before in F (s .args .alpha) (s .args .delta) (s .args .beta) (unitsAt (c .before .before .nearby .result + 1)) ≤ℤ s .args .m
+next-reached : (c : tie.Then1) → let s = c .before .before .before in F (s .args .alpha) (s .args .delta) (s .args .beta) (unitsAtPlace (c .before .before .nearby .result + 1)) ≤ℤ s .args .m
 next-reached c =
     let f = c .before in
     leZ-true (rw (result-reads-back (f .ratio-at .result) (f .ratio-at .ok), f .ratio-at .ensures, reads-m (f .before .before)) at (c .if1 .taken))
 
-next-past : (c : tie.Else1) → let s = c .before .before .before in s .args .m <ℤ F (s .args .alpha) (s .args .delta) (s .args .beta) (unitsAt (c .before .before .nearby .result + 1))
+next-past : (c : tie.Else1) → let s = c .before .before .before in s .args .m <ℤ F (s .args .alpha) (s .args .delta) (s .args .beta) (unitsAtPlace (c .before .before .nearby .result + 1))
 next-past c =
     let f = c .before in
     leZ-false (rw (result-reads-back (f .ratio-at .result) (f .ratio-at .ok), f .ratio-at .ensures, reads-m (f .before .before)) at (c .if1 .left))

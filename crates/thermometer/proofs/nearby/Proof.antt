@@ -13,7 +13,7 @@ use Rattle.integers.proofs.Order.{ltZ-false}
 use Rattle.integers.proofs.Bounds.{bounded-sum, number-bounded}
 use Rattle.integers.proofs.Machine.{reads-back, result-reads-back}
 use Rattle.thermometer.specs.Rule.{InRange}
-use Rattle.thermometer.specs.Steps.{onLine, onChord, nearbyUnits}
+use Rattle.thermometer.specs.Steps.{onLineThroughZero, onChord, nearbyUnits}
 use Rattle.thermometer.proofs.Bounds.{fits, t-bounded}
 use Rattle.thermometer.proofs.Places.{placeOf, place-of, place-at-most, place-counted}
 use Rattle.thermometer.proofs.Search.{small-measured, line-in-range, chord-end-in-range, chord-in-range}
@@ -34,14 +34,14 @@ small : (c : tie.Else1) → Bounded (c .before .args .m) (pos 22000000)
 small c = let s = c .before in small-measured (s .pre .0) (s .pre .1) (ltZ-false (m-not-large c))
 
 -- ---- what each call gives
-reads-line : (c : tie.After-on-line) → let a = c .before .before .args in toZ w64 (ofZ w64 (c .on-line .result)) ≡ onLine (a .alpha) (a .m)
+reads-line : (c : tie.After-on-line) → let a = c .before .before .args in toZ w64 (ofZ w64 (c .on-line .result)) ≡ onLineThroughZero (a .alpha) (a .m)
 reads-line c = result-reads-back (c .on-line .result) (c .on-line .ok) ∙ rw (reads-m (c .before .before)) at (c .on-line .ensures)
 
 abbrev units : tie.Start → ℤ
-units s = let a = s .args in onChord (a .alpha) (a .delta) (a .beta) (a .m) (onLine (a .alpha) (a .m))
+units s = let a = s .args in onChord (a .alpha) (a .delta) (a .beta) (a .m) (onLineThroughZero (a .alpha) (a .m))
 
 units-in-range : (s : tie.Start) → InRange (units s)
-units-in-range s = let a = s .args in chord-in-range (a .alpha) (a .delta) (a .beta) (a .m) (onLine (a .alpha) (a .m))
+units-in-range s = let a = s .args in chord-in-range (a .alpha) (a .delta) (a .beta) (a .m) (onLineThroughZero (a .alpha) (a .m))
 
 reads-chord : (c : tie.After-on-chord) → toZ w64 (ofZ w64 (c .on-chord .result)) ≡ units (c .before .before .before)
 reads-chord c =

@@ -9,7 +9,7 @@ use Rattle.integers.specs.Rounding.{floor}
 use Rattle.integers.proofs.Naturals.{natural-below}
 use Rattle.integers.proofs.Machine.{reads-back, result-reads-back, natural-reads-back}
 use Rattle.thermometer.specs.Rule.{one}
-use Rattle.thermometer.specs.Steps.{onLine}
+use Rattle.thermometer.specs.Steps.{onLineThroughZero}
 use Rattle.thermometer.proofs.Search.{above-one-fits, line-numerator-fits}
 use Rattle.thermometer.proofs.on_line.Statement.{statement}
 use Rattle.thermometer.proofs.on_line.Tie as tie
@@ -49,7 +49,7 @@ held-between-requires : tie.Need-held-between-requires
 held-between-requires c κs = search needs
 
 returns : tie.Need-returns
-unfolding onLine
+unfolding onLineThroughZero
 returns c =
     result-reads-back (c .held-between .result) (c .held-between .ok) ∙ rw (reads-quotient (c .before)) at (c .held-between .ensures)
 

@@ -11,7 +11,7 @@ use mir.Val.{toZ, ofZ}
 use borrow.Author.Needs.{needs}
 use borrow.Author.Tests.{lt-ltb, le-ltb}
 use Rattle.integers.proofs.Machine.{reads-back, result-reads-back}
-use Rattle.thermometer.specs.Rule.{F, unitsAt}
+use Rattle.thermometer.specs.Rule.{F, unitsAtPlace}
 use Rattle.thermometer.specs.Steps.{pastAt}
 use Rattle.thermometer.proofs.past_at.Statement.{statement}
 use Rattle.thermometer.proofs.past_at.Tie as tie
@@ -20,7 +20,7 @@ not-last : (c : tie.Else1) → ltb 491518 (c .before .args .near) ≡ false
 not-last c = le-ltb 491518 (c .before .args .near) (omega arith)
 
 abbrev after-F : tie.Start → ℤ
-after-F s = F (s .args .alpha) (s .args .delta) (s .args .beta) (unitsAt (s .args .near + 2))
+after-F s = F (s .args .alpha) (s .args .delta) (s .args .beta) (unitsAtPlace (s .args .near + 2))
 
 reads-F : (c : tie.After-ratio-at) → toZ w64 (ofZ w64 (c .ratio-at .result)) ≡ after-F (c .before .before)
 reads-F c = result-reads-back (c .ratio-at .result) (c .ratio-at .ok) ∙ c .ratio-at .ensures

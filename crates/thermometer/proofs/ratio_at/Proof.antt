@@ -6,7 +6,7 @@ use mir.Syntax.{w64}
 use mir.Val.{toZ, ofZ}
 use borrow.Author.Needs.{needs}
 use Rattle.integers.proofs.Machine.{reads-back, result-reads-back, natural-reads-back}
-use Rattle.thermometer.specs.Rule.{unitsAt}
+use Rattle.thermometer.specs.Rule.{unitsAtPlace}
 use Rattle.thermometer.proofs.Bounds.{t-fits}
 use Rattle.thermometer.proofs.Places.{place-in-range}
 use Rattle.thermometer.proofs.ratio_at.Statement.{statement}
@@ -16,7 +16,7 @@ module _ (s : tie.Start) where
   reads-k : toZ w64 (s .args .k) ≡ pos (s .args .k)
   reads-k = natural-reads-back (s .args .k) (omega arith)
 
-  reads-units : toZ w64 (ofZ w64 (unitsAt (s .args .k))) ≡ unitsAt (s .args .k)
+  reads-units : toZ w64 (ofZ w64 (unitsAtPlace (s .args .k))) ≡ unitsAtPlace (s .args .k)
   reads-units = reads-back (t-fits (place-in-range (s .pre .1)))
 
 cast-ratio : tie.Need-cast-ratio

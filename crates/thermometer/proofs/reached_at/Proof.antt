@@ -7,13 +7,13 @@ use mir.Syntax.{w64}
 use mir.Val.{toZ, ofZ}
 use borrow.Author.Needs.{needs}
 use Rattle.integers.proofs.Machine.{reads-back, result-reads-back}
-use Rattle.thermometer.specs.Rule.{F, unitsAt}
+use Rattle.thermometer.specs.Rule.{F, unitsAtPlace}
 use Rattle.thermometer.specs.Steps.{reachedAt}
 use Rattle.thermometer.proofs.reached_at.Statement.{statement}
 use Rattle.thermometer.proofs.reached_at.Tie as tie
 
 abbrev near-F : tie.Start → ℤ
-near-F s = F (s .args .alpha) (s .args .delta) (s .args .beta) (unitsAt (s .args .near))
+near-F s = F (s .args .alpha) (s .args .delta) (s .args .beta) (unitsAtPlace (s .args .near))
 
 reads-F : (c : tie.After-ratio-at) → toZ w64 (ofZ w64 (c .ratio-at .result)) ≡ near-F (c .before)
 reads-F c = result-reads-back (c .ratio-at .result) (c .ratio-at .ok) ∙ c .ratio-at .ensures

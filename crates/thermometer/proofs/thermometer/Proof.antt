@@ -11,7 +11,7 @@ use borrow.Author.Needs.{needs}
 use borrow.Author.Tests.{not-true, not-false}
 use Rattle.integers.proofs.Order.{ltZ-true, ltZ-false}
 use Rattle.integers.proofs.Machine.{result-reads-back}
-use Rattle.thermometer.specs.Rule.{M, F, lowest, highest}
+use Rattle.thermometer.specs.Rule.{M, F, lowestUnits, highestUnits}
 use Rattle.thermometer.specs.Ranges.{Admissible}
 use Rattle.thermometer.specs.Reading.{units, resistanceInside, coefficientsInside}
 use Rattle.thermometer.proofs.Ranges.{resistance-range, coefficients-admissible}
@@ -61,22 +61,22 @@ admissible4 c = r0-and-coefficients (c .before .before) .2
 reads-M : (c : tie.After-measured-ratio) → let a = entry4 (c .before) .args in toZ w64 (ofZ w64 (c .measured-ratio .result)) ≡ M (a .rpam) (a .r0) (a .pam) (a .offset) (a .count)
 reads-M c = result-reads-back (c .measured-ratio .result) (c .measured-ratio .ok) ∙ c .measured-ratio .ensures
 
-reads-lowest : (c : tie.After-ratio) → let a = entry5 c .args in toZ w64 (ofZ w64 (c .ratio .result)) ≡ F (a .alpha) (a .delta) (a .beta) lowest
+reads-lowest : (c : tie.After-ratio) → let a = entry5 c .args in toZ w64 (ofZ w64 (c .ratio .result)) ≡ F (a .alpha) (a .delta) (a .beta) lowestUnits
 reads-lowest c = result-reads-back (c .ratio .result) (c .ratio .ok) ∙ c .ratio .ensures
 
-reads-highest : (c : tie.After-ratio2) → let a = entry6 c .args in toZ w64 (ofZ w64 (c .ratio2 .result)) ≡ F (a .alpha) (a .delta) (a .beta) highest
+reads-highest : (c : tie.After-ratio2) → let a = entry6 c .args in toZ w64 (ofZ w64 (c .ratio2 .result)) ≡ F (a .alpha) (a .delta) (a .beta) highestUnits
 reads-highest c = result-reads-back (c .ratio2 .result) (c .ratio2 .ok) ∙ c .ratio2 .ensures
 
-M-below : (c : tie.Then5) → let a = entry5 (c .before) .args in M (a .rpam) (a .r0) (a .pam) (a .offset) (a .count) <ℤ F (a .alpha) (a .delta) (a .beta) lowest
+M-below : (c : tie.Then5) → let a = entry5 (c .before) .args in M (a .rpam) (a .r0) (a .pam) (a .offset) (a .count) <ℤ F (a .alpha) (a .delta) (a .beta) lowestUnits
 M-below c = ltZ-true (rw (reads-M (c .before .before), reads-lowest (c .before)) at (c .if5 .taken))
 
-M-not-below : (c : tie.Else5) → let a = entry5 (c .before) .args in F (a .alpha) (a .delta) (a .beta) lowest ≤ℤ M (a .rpam) (a .r0) (a .pam) (a .offset) (a .count)
+M-not-below : (c : tie.Else5) → let a = entry5 (c .before) .args in F (a .alpha) (a .delta) (a .beta) lowestUnits ≤ℤ M (a .rpam) (a .r0) (a .pam) (a .offset) (a .count)
 M-not-below c = ltZ-false (rw (reads-M (c .before .before), reads-lowest (c .before)) at (c .if5 .left))
 
-M-above : (c : tie.Then6) → let a = entry6 (c .before) .args in F (a .alpha) (a .delta) (a .beta) highest <ℤ M (a .rpam) (a .r0) (a .pam) (a .offset) (a .count)
+M-above : (c : tie.Then6) → let a = entry6 (c .before) .args in F (a .alpha) (a .delta) (a .beta) highestUnits <ℤ M (a .rpam) (a .r0) (a .pam) (a .offset) (a .count)
 M-above c = ltZ-true (rw (reads-M (c .before .before .before .before), reads-highest (c .before)) at (c .if6 .taken))
 
-M-not-above : (c : tie.Else6) → let a = entry6 (c .before) .args in M (a .rpam) (a .r0) (a .pam) (a .offset) (a .count) ≤ℤ F (a .alpha) (a .delta) (a .beta) highest
+M-not-above : (c : tie.Else6) → let a = entry6 (c .before) .args in M (a .rpam) (a .r0) (a .pam) (a .offset) (a .count) ≤ℤ F (a .alpha) (a .delta) (a .beta) highestUnits
 M-not-above c = ltZ-false (rw (reads-M (c .before .before .before .before), reads-highest (c .before)) at (c .if6 .left))
 
 -- ---- the needs
