@@ -1,0 +1,1 @@
+// All that is promised, as one theorem; no code.
