@@ -8,7 +8,7 @@ use Rattle.lists.specs.Tests.{Verdict, passes, fails}
 use Rattle.thermometer.specs.Reading.{Result, units, notRead}
 use Rattle.calibrator.specs.declared.Calibrator.{Calibrator}
 use Rattle.calibrator.specs.Feeding.{freshOf}
-use Rattle.feeds.specs.FeedList.{answerAt, buffersAt}
+use Rattle.feeds.specs.FeedList.{Lent, answerAt, buffersAt}
 
 -- version 6.0.0
 abbrev pub libraryVersion : ℕ
@@ -23,11 +23,10 @@ unitsOr (notRead n) before = before
 abbrev pub freshUnder : (table bias : List ℕ) → Calibrator
 freshUnder table bias = freshOf (record { bytes = table }) (record { bytes = bias })
 
-abbrev pub answersBy : Verdict → (table bias records recordLengths buffers bufferLengths answers : List ℕ) → List ℕ
-answersBy passes table bias records recordLengths buffers bufferLengths answers =
-    tabulate (answerAt (freshUnder table bias) records recordLengths buffers bufferLengths) (length answers)
-answersBy (fails number) table bias records recordLengths buffers bufferLengths answers = answers
+abbrev pub answersBy : Verdict → (table bias : List ℕ) → Lent → (answers : List ℕ) → List ℕ
+answersBy passes table bias lent answers = tabulate (answerAt (freshUnder table bias) lent) (length answers)
+answersBy (fails number) table bias lent answers = answers
 
-abbrev pub buffersBy : Verdict → (table bias records recordLengths buffers bufferLengths : List ℕ) → ℕ → List ℕ
-buffersBy passes table bias records recordLengths buffers bufferLengths n = buffersAt (freshUnder table bias) records recordLengths buffers bufferLengths n
-buffersBy (fails number) table bias records recordLengths buffers bufferLengths n = buffers
+abbrev pub buffersBy : Verdict → (table bias : List ℕ) → Lent → ℕ → List ℕ
+buffersBy passes table bias lent n = buffersAt (freshUnder table bias) lent n
+buffersBy (fails number) table bias lent n = lent .buffers

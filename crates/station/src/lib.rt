@@ -69,7 +69,7 @@ pub extern "C" fn sounder_feed_all(
     buffer_lengths: &[u32],
     answers: &mut [u8],
 ) -> u8
-    ensures { λ n. ⌜ (n ≡ numberOf (bothOpening (now (table .entry)) (now (bias .entry)))) × (now (answers .exit) ≡ answersBy (bothOpening (now (table .entry)) (now (bias .entry))) (now (table .entry)) (now (bias .entry)) (now (records .entry)) (now («record_lengths» .entry)) (now (buffers .entry)) (now («buffer_lengths» .entry)) (now (answers .entry))) × (now (buffers .exit) ≡ buffersBy (bothOpening (now (table .entry)) (now (bias .entry))) (now (table .entry)) (now (bias .entry)) (now (records .entry)) (now («record_lengths» .entry)) (now (buffers .entry)) (now («buffer_lengths» .entry)) (length (now (answers .entry)))) ⌝ }
+    ensures { λ n. ⌜ (n ≡ numberOf (bothOpening (now (table .entry)) (now (bias .entry)))) × (now (answers .exit) ≡ answersBy (bothOpening (now (table .entry)) (now (bias .entry))) (now (table .entry)) (now (bias .entry)) (record { scans = now (records .entry); sizes = now («record_lengths» .entry); buffers = now (buffers .entry); rooms = now («buffer_lengths» .entry) }) (now (answers .entry))) × (now (buffers .exit) ≡ buffersBy (bothOpening (now (table .entry)) (now (bias .entry))) (now (table .entry)) (now (bias .entry)) (record { scans = now (records .entry); sizes = now («record_lengths» .entry); buffers = now (buffers .entry); rooms = now («buffer_lengths» .entry) }) (length (now (answers .entry)))) ⌝ }
 {
     let opened = table::open(table);
     let answer = opened.answer;

@@ -12,7 +12,7 @@ use Rattle.bias.specs.Opening.{biasOpening, bothOpening}
 use Rattle.bias.proofs.OpeningLaws.{both-by-table, both-by-bias, both-pass}
 use Rattle.calibrator.specs.declared.Calibrator.{Calibrator}
 use Rattle.calibrator.specs.Feeding.{freshOf}
-use Rattle.feeds.specs.FeedList.{answerAt, buffersAt}
+use Rattle.feeds.specs.FeedList.{Lent, answerAt, buffersAt}
 use Rattle.station.specs.Calls.{freshUnder, answersBy, buffersBy}
 use Rattle.station.proofs.HandedLaws.{handed-table, handed-table-accepted, handed-bias, handed-bias-accepted}
 use borrow.Author.Needs.{needs}
@@ -20,22 +20,22 @@ use Rattle.station.proofs.sounder_feed_all.Statement.{statement}
 use Rattle.station.proofs.sounder_feed_all.Tie as tie
 
 -- ---- what the call leaves, by the verdict on the table and the bias file
-module _ (table bias records recordLengths buffers bufferLengths answers : List ℕ) where
+module _ (table bias : List ℕ) (lent : Lent) (answers : List ℕ) where
   abbrev LeftBy : Verdict → ℕ → (answered written : List ℕ) → Type 0
   LeftBy verdict n answered written =
-      (n ≡ numberOf verdict) × (answered ≡ answersBy verdict table bias records recordLengths buffers bufferLengths answers)
-      × (written ≡ buffersBy verdict table bias records recordLengths buffers bufferLengths (length answers))
+      (n ≡ numberOf verdict) × (answered ≡ answersBy verdict table bias lent answers)
+      × (written ≡ buffersBy verdict table bias lent (length answers))
 
-  refused-writes-nothing : {n : ℕ} → n ≡ numberOf (bothOpening table bias) → (n ≡ 0 → ⊥) → LeftBy (bothOpening table bias) n answers buffers
+  refused-writes-nothing : {n : ℕ} → n ≡ numberOf (bothOpening table bias) → (n ≡ 0 → ⊥) → LeftBy (bothOpening table bias) n answers (lent .buffers)
   refused-writes-nothing = by-verdict (bothOpening table bias)
     where
-      by-verdict : (verdict : Verdict) → {n : ℕ} → n ≡ numberOf verdict → (n ≡ 0 → ⊥) → LeftBy verdict n answers buffers
+      by-verdict : (verdict : Verdict) → {n : ℕ} → n ≡ numberOf verdict → (n ≡ 0 → ⊥) → LeftBy verdict n answers (lent .buffers)
       by-verdict passes is some = absurd (some is)
       by-verdict (fails k) is some = (is, refl, refl)
 
   passed-is-fed : bothOpening table bias ≡ passes → {first : Calibrator} → first ≡ freshUnder table bias → {answered written : List ℕ}
-      → answered ≡ tabulate (answerAt first records recordLengths buffers bufferLengths) (length answers)
-      → written ≡ buffersAt first records recordLengths buffers bufferLengths (length answers)
+      → answered ≡ tabulate (answerAt first lent) (length answers)
+      → written ≡ buffersAt first lent (length answers)
       → LeftBy (bothOpening table bias) 0 answered written
   passed-is-fed passed fresh {answered} {written} answers-are buffers-are =
       subst (λ (verdict : Verdict). LeftBy verdict 0 answered written) (sym passed) (refl, rw fresh at answers-are, rw fresh at buffers-are)
@@ -67,7 +67,7 @@ returns c =
     let number = c .before in
     let opened = number .before in
     let is = number-is (opened .«open» .result .answer) (opened .«open» .ensures .0) (number .refusal-number .ensures) in
-    refused-writes-nothing _ _ _ _ _ _ _ (both-by-table _ _ is (c .if1 .taken)) (c .if1 .taken)
+    refused-writes-nothing _ _ _ _ (both-by-table _ _ is (c .if1 .taken)) (c .if1 .taken)
 
 open-requires-2 : tie.Need-open-requires-2
 open-requires-2 c κs = search needs
@@ -81,7 +81,7 @@ returns-2 c =
     let opened = number .before in
     let first = opened .before in
     let is = number-is (opened .open2 .result .answer) (opened .open2 .ensures .0) (number .refusal-number2 .ensures) in
-    refused-writes-nothing _ _ _ _ _ _ _ (both-by-bias _ _ (table-passed first) is) (c .if2 .taken)
+    refused-writes-nothing _ _ _ _ (both-by-bias _ _ (table-passed first) is) (c .if2 .taken)
 
 table-requires : tie.Need-table-requires
 table-requires c κs = search needs
@@ -120,7 +120,7 @@ returns-3 c =
     let opened = first .before .before in
     let passed = table-passed first in
     let also = bias-passed second in
-    passed-is-fed _ _ _ _ _ _ _ (both-pass _ _ passed also)
+    passed-is-fed _ _ _ _ (both-pass _ _ passed also)
     (made .fresh .ensures .0
     ∙ ap₂ freshOf (handed-table _ (table .table .ensures) (opened .«open» .ensures .1) passed) (handed-bias _ (bias .bias .ensures) (biasOpened .open2 .ensures .1) also))
     (fed .feed-list .ensures .0)
