@@ -5,3 +5,4 @@ pub mod ReadBack
 pub mod StateLaws
 pub mod PutLaws
 pub mod FrontLaws
+mod Plain

@@ -26,7 +26,7 @@ use Rattle.state.proofs.InsideLaws.{window-in-range}
 
 -- ---- by the tests
 
-and-fails : (a : Bool) {b : Bool} → b ≡ false → (a && b) ≡ false
+pub and-fails : (a : Bool) {b : Bool} → b ≡ false → (a && b) ≡ false
 and-fails true wrong = wrong
 and-fails false wrong = refl
 

@@ -9,6 +9,7 @@ ghost use Rattle.fields.specs.Fields.{headSize, fieldBytes};
 ghost use Rattle.thermometer.specs.Reading.{fromTo};
 ghost use Rattle.table.specs.Opening.{AcceptedTable};
 ghost use Rattle.bias.specs.Opening.{AcceptedBias};
+ghost use Rattle.window.specs.Ranges.{WindowRange};
 ghost use Rattle.calibrator.specs.Steps.{calibratorWith};
 ghost use Rattle.lastscan.specs.Ranges.{LastRange};
 ghost use Rattle.lastscan.specs.Numbers.{lastInside};
@@ -333,7 +334,7 @@ fn put_window(out: &mut [u8], any: bool, last: u32, warm: &[u32], cold: &[u32], 
 
 // The calibrator that has this table, this bias file, this window and this last accepted scan, in the place of the state.
 pub fn save(state: &mut [u8], table: &[u8], bias: &[u8], window: Window, last: LastScan)
-    requires { ⌜ (stateSize ≤ length (now state)) × AcceptedTable (now table) × AcceptedBias (now bias) × LastRange last ⌝ }
+    requires { ⌜ (stateSize ≤ length (now state)) × AcceptedTable (now table) × AcceptedBias (now bias) × WindowRange window × LastRange last ⌝ }
     ensures { λ _. ⌜ now (state .exit) ≡ saved (now (state .entry)) (calibratorWith (now (table .entry)) (now (bias .entry)) window last) ⌝ }
 {
     let front = front_bytes();

@@ -7,6 +7,8 @@ use Rattle.table.proofs.OpenedLaws.{number-is, passed-at-zero}
 use Rattle.bias.specs.Opening.{biasOpening}
 use Rattle.bias.proofs.OpeningLaws.{both-by-table, both-by-bias, both-pass}
 use Rattle.window.specs.declared.Window.{Window}
+use Rattle.window.specs.Ranges.{WindowRange}
+use Rattle.window.proofs.AgeLaws.{empty-window-range}
 use Rattle.lastscan.specs.declared.LastScan.{LastScan}
 use Rattle.lastscan.specs.Ranges.{LastRange}
 use Rattle.lastscan.proofs.NumberLaws.{nothing-in-range}
@@ -87,6 +89,7 @@ save-requires c κs =
       room .if3 .left,
       record { accepted = table-passed first },
       record { accepted = bias-passed second; bytes = λ k. first .before .before .before .before .shared-slice-known2 .given k .fits },
+      subst WindowRange (sym (c .before .empty .ensures)) empty-window-range,
       subst LastRange (sym (c .nothing-kept .ensures)) nothing-in-range,
     )
 
