@@ -1,2 +1,3 @@
 pub mod FeedListLaws
 pub mod FeedListRuns
+mod Plain
