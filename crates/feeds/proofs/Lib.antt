@@ -1,3 +1,3 @@
 pub mod FeedListLaws
 pub mod FeedListRuns
-mod Plain
+pub mod Plain

@@ -1,3 +1,3 @@
 pub mod CallLaws
 pub mod StateRuns
-mod Plain
+pub mod Plain

@@ -5,4 +5,4 @@ pub mod ReadBack
 pub mod StateLaws
 pub mod PutLaws
 pub mod FrontLaws
-mod Plain
+pub mod Plain
