@@ -1,16 +1,17 @@
--- The bench scan is of bytes.
-use Prim.Native.Nat.{ℕ, zero, suc, _<_, _≤_}
+-- The bench scan is of bytes, and so are the scans of the witnesses.
+use Prim.Native.Nat.{ℕ, zero, suc, _+_, _<_, _≤_}
 use native.Mathlib.Omega.{arith}
 use mathlib.Core.List.{List, [], _∷_, _++_}
 use lib.Dec.{lit<, lit≤}
-use lib.ListN.{getD}
+use lib.ListN.{getD, take, drop}
 use Rattle.lists.specs.Build.{cells}
-use Rattle.lists.proofs.Elements.{zero-of-zeros, each-appended}
+use Rattle.lists.proofs.Elements.{zero-of-zeros, each-appended, each-of-take, each-of-drop}
 use Rattle.fields.specs.Numbers.{u16Bytes, u32Bytes}
-use Rattle.fields.specs.Fields.{Field, fieldAt, fieldBytes}
+use Rattle.fields.specs.Fields.{Field, fieldAt, fieldBytes, valueStart}
 use Rattle.instrument.specs.Instrument.{channels, positions, thermometers}
-use Rattle.record.specs.Record.{recordLayout, shelvesSize}
+use Rattle.record.specs.Record.{recordLayout, recordSize, shelvesSize}
 use Rattle.bench.specs.Bench.{perChannel, instrumentBytes, shelfBytes, benchScan}
+use Rattle.bench.specs.Witnesses.{numberedScan, zeros}
 
 abbrev IsByte : ℕ → Type 0
 IsByte n = n < 256
@@ -25,6 +26,13 @@ u16-bytes : (n : ℕ) → n ≤ 65535 → AreBytes (u16Bytes n)
 u16-bytes n small zero = omega arith
 u16-bytes n small (suc zero) = omega arith
 u16-bytes n small (suc (suc k)) = omega arith
+
+u32-bytes : (n : ℕ) → n < 0x1_0000_0000 → AreBytes (u32Bytes n)
+u32-bytes n small zero = omega arith
+u32-bytes n small (suc zero) = omega arith
+u32-bytes n small (suc (suc zero)) = omega arith
+u32-bytes n small (suc (suc (suc zero))) = omega arith
+u32-bytes n small (suc (suc (suc (suc k)))) = omega arith
 
 field-bytes : (f : Field) (value : List ℕ) → f .tag < 256 → f .size ≤ 65535 → AreBytes value → AreBytes (fieldBytes f value)
 field-bytes f value tag size bytes = both-bytes (f .tag ∷ u16Bytes (f .size)) value head bytes
@@ -52,9 +60,6 @@ per-channel-bytes : (n count : ℕ) → count ≤ 65535 → AreBytes (perChannel
 unfolding perChannel
 per-channel-bytes n count small = cells-bytes (cells (λ i. u16Bytes count) n) (cells-bytes (u16Bytes count) (u16-bytes count small) n) channels
 
-number-bytes : AreBytes (u32Bytes 7)
-number-bytes = both-bytes (0 ∷ 0 ∷ []) (0 ∷ 7 ∷ []) (u16-bytes 0 (lit≤ tt)) (u16-bytes 7 (lit≤ tt))
-
 -- field k of the record
 abbrev fieldOf : ℕ → List ℕ → List ℕ
 fieldOf k value = fieldBytes (fieldAt recordLayout k) value
@@ -68,9 +73,22 @@ bench-scan-bytes earth small =
     let warm = fieldOf 2 (perChannel 4 20000) in
     let instrument = fieldOf 1 instrumentBytes in
     both-bytes (fieldOf 0 (u32Bytes 7)) (instrument ++ (warm ++ (cold ++ (earths ++ shelves))))
-    (field-bytes (fieldAt recordLayout 0) (u32Bytes 7) (lit< tt) (lit≤ tt) number-bytes)
+    (field-bytes (fieldAt recordLayout 0) (u32Bytes 7) (lit< tt) (lit≤ tt) (u32-bytes 7 (lit< tt)))
     (both-bytes instrument (warm ++ (cold ++ (earths ++ shelves))) (field-bytes (fieldAt recordLayout 1) instrumentBytes (lit< tt) (lit≤ tt) instrument-bytes)
     (both-bytes warm (cold ++ (earths ++ shelves)) (field-bytes (fieldAt recordLayout 2) (perChannel 4 20000) (lit< tt) (lit≤ tt) (per-channel-bytes 4 20000 (lit≤ tt)))
     (both-bytes cold (earths ++ shelves) (field-bytes (fieldAt recordLayout 3) (perChannel 4 10000) (lit< tt) (lit≤ tt) (per-channel-bytes 4 10000 (lit≤ tt)))
     (both-bytes earths shelves (field-bytes (fieldAt recordLayout 4) (perChannel positions earth) (lit< tt) (lit≤ tt) (per-channel-bytes positions earth small))
     (field-bytes (fieldAt recordLayout 5) shelfBytes (lit< tt) (lit≤ tt) shelf-bytes)))))
+
+pub numbered-bytes : (number earth : ℕ) → number < 0x1_0000_0000 → earth ≤ 65535 → AreBytes (numberedScan number earth)
+unfolding numberedScan
+numbered-bytes number earth low small =
+    let at = valueStart recordLayout 0 in
+    let rest = drop (at + 4) (benchScan earth) in
+    both-bytes (take at (benchScan earth)) (u32Bytes number ++ rest)
+    (each-of-take 0 IsByte (lit< tt) at (benchScan earth) (bench-scan-bytes earth small))
+    (both-bytes (u32Bytes number) rest (u32-bytes number low) (each-of-drop 0 IsByte (lit< tt) (at + 4) (benchScan earth) (bench-scan-bytes earth small)))
+
+pub zeros-bytes : AreBytes zeros
+unfolding zeros
+zeros-bytes k = omega (arith, zero-of-zeros recordSize k)

@@ -5,9 +5,9 @@ use native.Mathlib.Nat.{le-refl}
 use native.Mathlib.Omega.{arith}
 use mathlib.Core.Path.{_≡_, refl, sym, ap, ap₂, subst, _∙_}
 use mathlib.Core.List.{List, [], _∷_}
-use mathlib.Core.Bool.{true, false}
+use mathlib.Core.Bool.{true, false, cond}
 use lib.ListN.{length, getD, replicate, length-replicate}
-use lib.Dec.{lit<, lit≤}
+use lib.Dec.{eqb, lit<, lit≤}
 use lib.Signed.{_<ℤ_}
 use lib.IntN.{ℤ, pos, _*ℤ_}
 use borrow.Author.Tests.{le-leb}
@@ -18,12 +18,13 @@ use Rattle.lists.specs.Build.{tabulate, cells}
 use Rattle.lists.specs.Count.{count}
 use Rattle.lists.specs.Sum.{sum}
 use Rattle.lists.specs.Tests.{Verdict, passes, fails}
+use Rattle.lists.proofs.Tabulate.{each-of-same}
 use Rattle.fields.specs.Fields.{fieldIsRight, layoutIsRight}
 use Rattle.instrument.specs.declared.Target.{Target}
 use Rattle.instrument.specs.declared.Target.the-variants.{Kav, Wg}
 use Rattle.instrument.specs.Instrument.{channels, positions, targetOf}
 use Rattle.table.specs.declared.Corrections.{Corrections}
-use Rattle.record.specs.Record.{scanNumber, recordSize}
+use Rattle.record.specs.Record.{recordLayout, scanNumber, recordSize}
 use Rattle.samples.specs.Good.{differs, good, chosenTo}
 use Rattle.bias.specs.Bias.{zeroBias}
 use Rattle.bias.proofs.Zeros.{zero-bias-accepted}
@@ -32,9 +33,10 @@ use Rattle.acceptance.specs.Accepted.{acceptedCounts, AcceptedSamples, accepted
 use Rattle.acceptance.specs.Bracketed.{SampleBracketed}
 use Rattle.thermometer.specs.Equations.{measuredRatio, Bracketed}
 use Rattle.acceptance.specs.Kept.{keptScan}
+use Rattle.acceptance.specs.declared.Scan.{Scan}
 use Rattle.scene.specs.declared.Channel.{Channel}
 use Rattle.window.specs.Ages.{noScan, windowOf, shifted, windowAfter}
-use Rattle.window.specs.Sums.{weightSum, valueSum, thermometerWeights, thermometerSum, meansFrom}
+use Rattle.window.specs.Sums.{weightSum, valueSum, thermometerWeights, thermometerSum, meansFrom, meansOf}
 use Rattle.window.specs.declared.Means.{Means}
 use Rattle.window.specs.Means.{D, flagOf, channelStateOf}
 use Rattle.scene.specs.Temperature.{temperature, biased}
@@ -45,26 +47,30 @@ use Rattle.product.specs.Scenes.{Deliver, sceneIn}
 use Rattle.product.proofs.SceneLaws.{InUnitsBy}
 use Rattle.calibrator.specs.declared.Calibrator.{Calibrator}
 use Rattle.calibrator.specs.Refusals.{verdict, Reply, delivered, refused}
-use Rattle.calibrator.specs.Feeding.{Feed, freshOf, verdictIn, stepBy, step, calibratorAfter}
-use Rattle.promise.specs.Roll.{verdictAt}
+use Rattle.calibrator.specs.Feeding.{Feed, AllOfBytes, freshOf, keptBy, verdictIn, stepBy, step, calibratorAfter}
+use Rattle.promise.specs.Roll.{Roll, verdictAt, joinedBy}
 use Rattle.promise.specs.Restart.{rolledBy}
+use Rattle.promise.specs.Outcomes.{fedMoment}
 use Rattle.promise.specs.Moments.{meansAt, tnlAt, wordAt, unitsAt, isDelivered}
 use Rattle.promise.specs.Promise.{front, FeedClaim, Alike, Promise}
 use Rattle.scene.specs.BeforeBias.{justT, outsideMark}
 use Rattle.lookup.specs.Lookup.{Found, foundCount}
 use Rattle.promise.specs.CountBehind.{answerOf, AnswerSays}
 use Rattle.promise.proofs.CountLaws.{answers-say, higher-count-higher-t}
-use Rattle.bench.proofs.BenchBytes.{bench-scan-bytes}
+use Rattle.bench.proofs.BenchBytes.{bench-scan-bytes, numbered-bytes, zeros-bytes}
 use Rattle.promise.specs.SameScenes.{FedChannel, settingsOfFed, momentOfFed, fedFlag, fedNumbers, fedScene}
 use Rattle.product.specs.Product.{productSize}
 use Rattle.bench.specs.Bench.{benchTable, instrumentBytes, perChannel, shelfBytes, benchScan, benchCalibrator, benchSettings, benchMoment, benchChannel, benchT}
-use Rattle.bench.specs.Witnesses.{rejectedScan, flaggedScan, zeros, rejectedList, oneOfEach, replies}
-use Rattle.calibrator.proofs.Verdicts.{verdict-length-wrong, verdict-field-wrong, verdict-number-not-above, verdict-buffer-short}
-use Rattle.bench.proofs.BenchScan.{bench-table, bench-row, samplesAt, samplesWith, samples-are, bench-samples, benchMeans, bench-means, bench-tnl}
+use Rattle.bench.specs.Witnesses.{rejectedScan, flaggedScan, numberedScan, zeros, rejectedList, oneOfEach, feedsBefore, replies}
+use Rattle.calibrator.proofs.Plain.{no-feed-of-bytes, feeds-of-bytes}
+use Rattle.calibrator.proofs.Verdicts.{verdict-length-wrong, verdict-field-wrong, verdict-number-not-above, verdict-buffer-short, verdict-passes}
+use Rattle.bench.proofs.BenchScan.{bench-table, bench-row, samplesAt, samplesWith, samples-are, bench-samples, bench-kept, benchKept, benchMeans, bench-tnl}
 use Rattle.bench.proofs.FirstFeed.{states-by-kept, Gives, first-verdict, first-word, first-reply}
 use Rattle.bench.proofs.BenchFeed.{channels-of-kept, scene-delivered, bench-gives, bench-passes, bench-reply}
 use Rattle.bench.proofs.BenchRows.{tcOf, riseOf, rise-of-target, rows}
 use Rattle.promise.proofs.Plain.{same-scan-by, alike-accepted-by, alike-refused-by, alike-by, none-alike, same-products-say, each-says, fed-record-says}
+use Rattle.promise.proofs.RollLaws.{scanOfAge}
+use Rattle.promise.proofs.SampleLaws.{means-at-is}
 use Rattle.promise.proofs.SceneClaims.{bits-delivered}
 use Rattle.promise.proofs.Demand.{demand-three}
 use Rattle.promise.proofs.ThermometerLaws.{fed-thermometers-bracketed}
@@ -279,52 +285,92 @@ module _ (buffer : List ℕ) (room : productSize ≤ length buffer) (c i : ℕ) 
       let delivered-is = ap (λ (deliver : ℕ → Deliver). deliver c i (benchT 15000 c i)) by-zero-bias ∙ rows .H4 c i below inside .1 in
       subst (λ (t : ℤ). Equal (unitsAt (after .outcome .buffer) c i) (whole t)) delivered-is (claim .scenes c i below inside .exact all-delivered)
 
--- ---- request W3: channels 1 and 16 of the bench scan, by eight thermometers and by seven, agree in the six numbers
+-- ---- the bench scan after a refused record and a scan with number 6, whose weights at age 1 are 0
 
-abbrev benchNumbers : List ℤ
-benchNumbers = pos 11166 ∷ pos 1107656 ∷ pos 400 ∷ pos 120000 ∷ pos 12 ∷ pos 120000 ∷ []
+module _ (number earth : ℕ) where
+  abbrev sidesOfScan : Sides
+  sidesOfScan = record { warm = samplesAt 4 20000; cold = samplesAt 4 10000 }
 
-target-sums-differ : (earth : ℕ) → meansAt benchSettings (benchMoment earth) 0 ≡ meansAt benchSettings (benchMoment earth) 15 → ⊥
-target-sums-differ earth same =
-    let eight-is-seven : _≡_ {A = ℕ} 8 7 = ap (λ (m : Means). m .sumVP) (sym (bench-means earth 0 (lit< tt)) ∙ same ∙ bench-means earth 15 (lit< tt)) in
-    omega arith
+  numbered-samples : acceptedSamples benchSettings (numberedScan number earth) ≡ samplesWith sidesOfScan
+  unfolding benchTable numberedScan tabulate acceptedCounts fourCounts withinLimits acceptedSides withoutOverlap good differs count chosenTo
+  numbered-samples = samples-are (numberedScan number earth) sidesOfScan refl refl
+
+  numbered-kept : keptBy benchSettings (numberedScan number earth) ≡ benchKept
+  unfolding keptScan tabulate
+  numbered-kept = ap keptScan numbered-samples
+
+  numbered-long : length (numberedScan number earth) ≡ recordSize
+  unfolding numberedScan
+  numbered-long = refl
+
+  numbered-right : layoutIsRight (numberedScan number earth) 0 recordLayout ≡ true
+  unfolding numberedScan layoutIsRight fieldIsRight
+  numbered-right = refl
+
+means-after-six : (c : ℕ) → c < channels
+    → meansOf benchSettings (λ k. cond (eqb (7 + k) 7) benchKept (cond (eqb (6 + k) 7) benchKept noScan)) c ≡ benchMeans (targetOf c)
+unfolding benchTable tabulate meansFrom weightSum valueSum thermometerWeights thermometerSum sum noScan
+means-after-six = each-of-same _ (λ c. benchMeans (targetOf c)) channels refl
 
 target-flag-zero : (target : Target) → flagOf benchSettings target (benchMeans target) ≡ 0
 unfolding benchTable flagOf sum
 target-flag-zero Kav = refl
 target-flag-zero Wg = refl
 
+-- ---- request W3: channels 1 and 16 of the bench scan, by eight thermometers and by seven, agree in the six numbers
+
+abbrev benchNumbers : List ℤ
+benchNumbers = pos 11166 ∷ pos 1107656 ∷ pos 400 ∷ pos 120000 ∷ pos 12 ∷ pos 120000 ∷ []
+
 module _ (earth : ℕ) (buffer : List ℕ) (room : productSize ≤ length buffer) where
-  pub fed-passes : verdictAt (rolledBy [] []) (record { scan = benchScan earth; buffer = buffer }) ≡ passes
-  unfolding rolledBy
-  fed-passes = first-verdict (bench-gives earth) buffer room
+  -- the refused record leaves the roll empty, and the other joins it
+  pub rolled-before : rolledBy [] (feedsBefore earth buffer) ≡ numberedScan 6 earth ∷ []
+  unfolding rolledBy zeros layoutIsRight fieldIsRight
+  rolled-before =
+      let six : Feed = record { scan = numberedScan 6 earth; buffer = buffer } in
+      let refused-first = verdict-field-wrong false 0 zeros (length buffer) refl refl in
+      let accepted-then = verdict-passes false 0 (numberedScan 6 earth) (length buffer) (numbered-long 6 earth) (numbered-right 6 earth) refl room in
+      ap (λ (v : Verdict). rolledBy (joinedBy v [] (record { scan = zeros; buffer = buffer })) (six ∷ [])) refused-first ∙ ap (λ (v : Verdict). joinedBy v [] six) accepted-then
+
+  pub fed-passes : verdictAt (rolledBy [] (feedsBefore earth buffer)) (record { scan = benchScan earth; buffer = buffer }) ≡ passes
+  unfolding numberedScan benchScan
+  fed-passes =
+      ap (λ (roll : Roll). verdictAt roll (record { scan = benchScan earth; buffer = buffer })) rolled-before
+      ∙ verdict-passes true 6 (benchScan earth) (length buffer) (bench-gives earth .long) (bench-gives earth .right) refl room
 
   abbrev pub fed : (c : ℕ) → c < channels → FedChannel
   fed c below = record {
     table = benchTable;
     tableAccepted = bench-table;
-    before = [];
+    before = feedsBefore earth buffer;
     feed = record { scan = benchScan earth; buffer = buffer };
     feedAccepted = fed-passes;
     channel = c;
     isChannel = below;
   }
 
+  fed-means : (c : ℕ) (below : c < channels) → meansAt benchSettings (momentOfFed (fed c below)) c ≡ benchMeans (targetOf c)
+  unfolding scanOfAge benchScan numberedScan
+  fed-means c below =
+      ap (λ (roll : Roll). meansAt benchSettings (fedMoment roll (benchScan earth)) c) rolled-before
+      ∙ means-at-is benchSettings (fedMoment (numberedScan 6 earth ∷ []) (benchScan earth)) c below
+      ∙ ap₂ (λ (kept older : Scan). meansOf benchSettings (λ k. cond (eqb (7 + k) 7) kept (cond (eqb (6 + k) 7) older noScan)) c) (bench-kept earth) (numbered-kept 6 earth)
+      ∙ means-after-six c below
+
   fed-flag-zero : (c : ℕ) (below : c < channels) → fedFlag (fed c below) ≡ 0
-  unfolding rolledBy
-  fed-flag-zero c below = ap (flagOf benchSettings (targetOf c)) (bench-means earth c below) ∙ target-flag-zero (targetOf c)
+  fed-flag-zero c below = ap (flagOf benchSettings (targetOf c)) (fed-means c below) ∙ target-flag-zero (targetOf c)
 
   fed-numbers-are : (c : ℕ) (below : c < channels) → fedNumbers (fed c below) ≡ benchNumbers
-  unfolding rolledBy
   fed-numbers-are c below =
       ap₂ (λ (m : Means) (k : Corrections). tcOf k ∷ riseOf m k ∷ tnlAt benchSettings (benchMoment earth) c ∷ D m ∷ (pos 12 *ℤ pos (m .Wc) *ℤ pos (m .Ww)) ∷ (pos (m .Ac) *ℤ pos (m .Ww)) ∷ [])
-      (bench-means earth c below) (bench-row c below)
+      (fed-means c below) (bench-row c below)
       ∙ ap₂ (λ (rise tnl : ℤ). pos 11166 ∷ rise ∷ tnl ∷ pos 120000 ∷ pos 12 ∷ pos 120000 ∷ []) (rise-of-target (targetOf c)) (bench-tnl earth c below)
 
   -- though their sums differ
   pub sums-differ : meansAt (settingsOfFed (fed 0 (lit< tt))) (momentOfFed (fed 0 (lit< tt))) 0 ≡ meansAt (settingsOfFed (fed 15 (lit< tt))) (momentOfFed (fed 15 (lit< tt))) 15 → ⊥
-  unfolding rolledBy
-  sums-differ = target-sums-differ earth
+  sums-differ same =
+      let eight-is-seven : _≡_ {A = ℕ} 8 7 = ap (λ (m : Means). m .sumVP) (sym (fed-means 0 (lit< tt)) ∙ same ∙ fed-means 15 (lit< tt)) in
+      omega arith
 
   -- so that every count has the same T or the same mark
   pub both-targets-same : (count : ℕ) → count ≤ 65535 → fedScene (fed 0 (lit< tt)) (pos count) ≡ fedScene (fed 15 (lit< tt)) (pos count)
@@ -346,14 +392,19 @@ module _ (earth : ℕ) (buffer : List ℕ) (room : productSize ≤ length buffer
   unfolding temperature r floor
   scene-of-h6 c below = scene-by-bench-numbers c below 9999
 
-  -- request W5: after the bench scan, 15,000 is the count behind the T of H4
+  -- request W5: after these feeds, all of bytes, 15,000 is the count behind the T of H4
   module _ (small : earth ≤ 65535) (c : ℕ) (below : c < channels) where
+    before-of-bytes : AllOfBytes (feedsBefore earth buffer)
+    before-of-bytes =
+        let six : Feed = record { scan = numberedScan 6 earth; buffer = buffer } in
+        feeds-of-bytes (record { scan = zeros; buffer = buffer }) (six ∷ []) zeros-bytes
+        (feeds-of-bytes six [] (numbered-bytes 6 earth (lit< tt) small) no-feed-of-bytes)
+
     abbrev benchAnswer : ℕ → Found
-    benchAnswer wanted = answerOf (step (calibratorAfter benchCalibrator []) (record { scan = benchScan earth; buffer = buffer }) .calibrator) (c + 1) wanted
+    benchAnswer wanted = answerOf (step (calibratorAfter benchCalibrator (feedsBefore earth buffer)) (record { scan = benchScan earth; buffer = buffer }) .calibrator) (c + 1) wanted
 
     bench-says : (wanted : ℕ) → AnswerSays (fed c below) (benchAnswer wanted) wanted
-    unfolding All
-    bench-says wanted = answers-say (fed c below) (tt, bench-scan-bytes earth small) (fed-flag-zero c below) (record { bytes = zeroBias }) wanted
+    bench-says wanted = answers-say (fed c below) (before-of-bytes, bench-scan-bytes earth small) (fed-flag-zero c below) (record { bytes = zeroBias }) wanted
 
     pub count-behind-h4 : benchAnswer 565394 ≡ foundCount 15000
     count-behind-h4 = bench-says 565394 .only 15000 (lit≤ tt) (scene-of-h4 c below)
@@ -364,13 +415,13 @@ module _ (earth : ℕ) (buffer : List ℕ) (room : productSize ≤ length buffer
     scene-of-h5 = scene-by-bench-numbers c below 10000
 
     pub h5-below-h4 : pos 11166 <ℤ pos 565394
-    unfolding All
-    h5-below-h4 = higher-count-higher-t (fed c below) (tt, bench-scan-bytes earth small) 10000 15000 (pos 11166) (pos 565394) (lit< tt) scene-of-h5 (scene-of-h4 c below)
+    h5-below-h4 =
+        higher-count-higher-t (fed c below) (before-of-bytes, bench-scan-bytes earth small) 10000 15000 (pos 11166) (pos 565394) (lit< tt) scene-of-h5 (scene-of-h4 c below)
 
   -- request W7: every thermometer of the bench scan has T 1,118,822, and t = 0 of the first is bracketed by its counts
   pub first-thermometer-bracketed : Bracketed 3850000 1500000 0 (measuredRatio 2000000 2000000 20000 0 20000) (pos 0)
   unfolding All tabulate cells benchTable benchScan instrumentBytes
   first-thermometer-bracketed =
       let scan = benchScan earth in
-      let claim = fed-record-says fed-thermometers-bracketed (record { bytes = benchTable }) [] (record { scan = scan; buffer = buffer }) fed-passes in
+      let claim = fed-record-says fed-thermometers-bracketed (record { bytes = benchTable }) (feedsBefore earth buffer) (record { scan = scan; buffer = buffer }) fed-passes in
       subst (λ (samples : AcceptedSamples). All (SampleBracketed benchSettings scan Kav) (samples .kav)) (bench-samples earth) (claim Kav) .0

@@ -6,7 +6,7 @@ use Rattle.lists.specs.Build.{cells, put}
 use Rattle.fields.specs.Fields.{valueStart}
 use Rattle.instrument.specs.Instrument.{channels}
 use Rattle.record.specs.Record.{recordLayout, recordSize}
-use Rattle.fields.specs.Numbers.{u16Bytes}
+use Rattle.fields.specs.Numbers.{u16Bytes, u32Bytes}
 use Rattle.calibrator.specs.declared.Calibrator.{Calibrator}
 use Rattle.calibrator.specs.Refusals.{Reply}
 use Rattle.calibrator.specs.Feeding.{Feed, step}
@@ -28,6 +28,11 @@ unfoldable pub flaggedScan : List ℕ
 unfolding perChannel benchScan
 flaggedScan = withWarm (perChannel 4 10000) 15000
 
+-- the bench scan with this number
+unfoldable pub numberedScan : (number earth : ℕ) → List ℕ
+unfolding benchScan
+numberedScan number earth = put (benchScan earth) (valueStart recordLayout 0) (u32Bytes number)
+
 -- no tag
 unfoldable pub zeros : List ℕ
 zeros = replicate recordSize 0
@@ -47,6 +52,10 @@ oneOfEach buffer =
     ∷ record { scan = benchScan 15000; buffer = buffer }
     ∷ record { scan = benchScan 15000; buffer = buffer }
     ∷ []
+
+-- what is fed before the bench scan: a record that is refused, and the scan with the number before
+abbrev pub feedsBefore : (earth : ℕ) (buffer : List ℕ) → List Feed
+feedsBefore earth buffer = record { scan = zeros; buffer = buffer } ∷ record { scan = numberedScan 6 earth; buffer = buffer } ∷ []
 
 -- the answers of a run
 unfoldable pub replies : Calibrator → List Feed → List Reply
