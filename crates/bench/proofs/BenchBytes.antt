@@ -1,7 +1,7 @@
 -- The bench scan is of bytes, and so are the scans of the witnesses.
 use Prim.Native.Nat.{ℕ, zero, suc, _+_, _<_, _≤_}
 use native.Mathlib.Omega.{arith}
-use mathlib.Core.List.{List, [], _∷_, _++_}
+use mathlib.Core.List.{List, _∷_, _++_}
 use lib.Dec.{lit<, lit≤}
 use lib.ListN.{getD, take, drop}
 use Rattle.lists.specs.Build.{cells}

@@ -5,3 +5,4 @@ pub mod BenchFeed
 pub mod BenchRows
 pub mod BenchLines
 pub mod Witnesses
+pub mod Refusals
