@@ -4,7 +4,7 @@ use native.Mathlib.Nat.{mul-comm}
 use native.Mathlib.Omega.{arith}
 use mathlib.Core.Path.{_≡_, refl, ap, ap₂, _∙_}
 use mathlib.Core.List.{List}
-use mathlib.Core.Bool.{Bool, true, cond}
+use mathlib.Core.Bool.{Bool, cond}
 use lib.Dec.{eqb}
 use lib.IntN.{pos}
 use lib.ListN.{length, take, drop, replicate}
@@ -21,7 +21,7 @@ use Rattle.instrument.specs.declared.Side.the-variants.{Warm, Cold}
 use Rattle.instrument.specs.declared.Target.{Target}
 use Rattle.instrument.specs.declared.Target.the-variants.{Kav, Wg}
 use Rattle.table.specs.declared.Corrections.{Corrections}
-use Rattle.table.specs.Settings.{pairs, correctionsOf}
+use Rattle.table.specs.Settings.{Settings, pairs, correctionsOf}
 use Rattle.instrument.specs.Instrument.{thermometers, channels, firstOf, sizeOf, targetOf, positions}
 use Rattle.nonlinearity.proofs.InterpolationLaws.{tnl-level}
 use Rattle.table.specs.Ranges.{leastsInside, thermometerLimitsInside, channelInside, pairInside, sumsInside, valuesInside}
@@ -41,7 +41,7 @@ use Rattle.lists.proofs.Stands.{cell-stands}
 use Rattle.fields.proofs.FieldBytes.{u16-that-stands}
 use Rattle.promise.specs.Moments.{meansAt, shelfAt, tnlAt}
 use Rattle.calibrator.specs.Feeding.{keptBy}
-use Rattle.bench.specs.Bench.{benchTable, instrumentBytes, perChannel, benchScan, benchSettings, benchMoment}
+use Rattle.bench.specs.Bench.{benchTable, instrumentBytes, perChannel, benchScan, benchSettings, benchMoment, samplesAt}
 use Rattle.promise.proofs.RollLaws.{scanOfAge}
 use Rattle.promise.proofs.SampleLaws.{means-at-is}
 
@@ -68,13 +68,22 @@ level-pairs c below =
 
 -- ---- a scan with the instrument counts of the bench scan
 
--- T of 0 °C at each place of a target, or one count at each of the first n places
-abbrev pub samplesAt : ℕ → ℕ → List Sample
-samplesAt n value = tabulate (λ i. record { place = i; value = value }) n
-
 -- every channel with these accepted counts
 abbrev pub samplesWith : Sides → AcceptedSamples
 samplesWith sides = record { kav = samplesAt (sizeOf Kav) 1118822; wg = samplesAt (sizeOf Wg) 1118822; counts = replicate channels sides }
+
+-- ---- thermometers, from what each of a target reads
+
+module _ (s : Settings) (value : List ℕ) (target : Target) (read : ℕ → Result)
+    (reads : (i : ℕ) → i < sizeOf target → readingAt s value (firstOf target + i) ≡ read i) where
+  row-of-target : {A : Type 0} (f : Result → A) → tabulate (λ i. f (readingAt s value (firstOf target + i))) (sizeOf target) ≡ tabulate (λ i. f (read i)) (sizeOf target)
+  row-of-target f = tabulate-same _ _ (sizeOf target) (λ i inside. ap f (reads i inside))
+
+  pub accepted-by-readings : acceptedThermometers s value target
+      ≡ atLeast (s .least target) (goodSamples (tabulate (λ i. inKelvin (read i)) (sizeOf target)) (tabulate (λ i. inLimits s (read i)) (sizeOf target)) (s .dT))
+  unfolding acceptedThermometers kelvins passedLimits
+  accepted-by-readings =
+      ap₂ (λ (values : List ℕ) (passed : List Bool). atLeast (s .least target) (goodSamples values passed (s .dT))) (row-of-target inKelvin) (row-of-target (inLimits s))
 
 each-reads-zero : (i : ℕ) → i < thermometers → readingAt benchSettings instrumentBytes i ≡ units (pos 0)
 unfolding benchTable instrumentBytes tabulate
@@ -82,38 +91,41 @@ each-reads-zero i below =
     each-of-same (readingAt benchSettings instrumentBytes) (λ i. reading 2000000 2000000 3850000 1500000 0 20000 0 20000) thermometers refl i below
     ∙ bench-reading
 
--- the row of a target, of anything that a reading gives
-row-of-target : {A : Type 0} (f : Result → A) (target : Target)
-    → tabulate (λ i. f (readingAt benchSettings instrumentBytes (firstOf target + i))) (sizeOf target)
-    ≡ tabulate (λ i. f (units (pos 0))) (sizeOf target)
-row-of-target f target = tabulate-same _ _ (sizeOf target) (λ i inside. ap f (each-reads-zero (firstOf target + i) (omega (arith, last-at-most target))))
-
 accepted-of-target : (target : Target) → acceptedThermometers benchSettings instrumentBytes target
     ≡ atLeast (benchSettings .least target)
-    (goodSamples (tabulate (λ i. 1118822) (sizeOf target)) (tabulate (λ i. true) (sizeOf target)) (benchSettings .dT))
-unfolding acceptedThermometers kelvins passedLimits benchTable
+    (goodSamples (tabulate (λ i. 1118822) (sizeOf target)) (tabulate (λ i. inLimits benchSettings (units (pos 0))) (sizeOf target)) (benchSettings .dT))
 accepted-of-target target =
-    ap₂ (λ (values : List ℕ) (passed : List Bool). atLeast (benchSettings .least target) (goodSamples values passed (benchSettings .dT)))
-    (row-of-target inKelvin target) (row-of-target (inLimits benchSettings) target)
+    accepted-by-readings benchSettings instrumentBytes target (λ i. units (pos 0)) (λ i inside. each-reads-zero (firstOf target + i) (omega (arith, last-at-most target)))
 
 accepted-thermometers : (target : Target) → acceptedThermometers benchSettings instrumentBytes target ≡ samplesAt (sizeOf target) 1118822
 unfolding benchTable tabulate good differs count chosenTo
 accepted-thermometers Kav = accepted-of-target Kav
 accepted-thermometers Wg = accepted-of-target Wg
 
+-- under settings by which these are accepted
+pub samples-by : (s : Settings) (scan : List ℕ) (sides : Sides) → ((target : Target) → acceptedThermometers s instrumentBytes target ≡ samplesAt (sizeOf target) 1118822)
+    → instrument scan ≡ instrumentBytes
+    → tabulate (λ c. acceptedCounts (s .channel c) (channelPart (sideValue scan Warm) c) (channelPart (sideValue scan Cold) c)) channels ≡ replicate channels sides
+    → acceptedSamples s scan ≡ samplesWith sides
+unfolding acceptedSamples
+samples-by s scan sides accepted same counts =
+    ap₂ (λ (value : List ℕ) (all : List Sides). record {
+      kav = acceptedThermometers s value Kav;
+      wg = acceptedThermometers s value Wg;
+      counts = all;
+    }) same counts
+    ∙ ap₂ (λ (kav wg : List Sample). record { kav = kav; wg = wg; counts = replicate channels sides }) (accepted Kav) (accepted Wg)
+
 pub samples-are : (scan : List ℕ) (sides : Sides) → instrument scan ≡ instrumentBytes
     → tabulate (λ c. acceptedCounts (benchSettings .channel c) (channelPart (sideValue scan Warm) c) (channelPart (sideValue scan Cold) c)) channels ≡ replicate channels sides
     → acceptedSamples benchSettings scan ≡ samplesWith sides
-unfolding acceptedSamples
-samples-are scan sides same counts =
-    ap₂ (λ (value : List ℕ) (all : List Sides). record {
-      kav = acceptedThermometers benchSettings value Kav;
-      wg = acceptedThermometers benchSettings value Wg;
-      counts = all;
-    }) same counts
-    ∙ ap₂ (λ (kav wg : List Sample). record { kav = kav; wg = wg; counts = replicate channels sides }) (accepted-thermometers Kav) (accepted-thermometers Wg)
+samples-are scan sides = samples-by benchSettings scan sides accepted-thermometers
 
 -- ---- the bench scan
+
+-- the accepted counts of each channel
+abbrev pub benchSides : Sides
+benchSides = record { warm = samplesAt 4 20000; cold = samplesAt 4 10000 }
 
 -- of a side one more than its scan value (decision 23); T of 0 °C
 abbrev pub benchKept : Scan
@@ -142,9 +154,9 @@ module _ (earth c i : ℕ) (below : c < channels) (inside : i < positions) where
 module _ (earth : ℕ) where
   -- ---- what it keeps
 
-  pub bench-samples : acceptedSamples benchSettings (benchScan earth) ≡ samplesWith (record { warm = samplesAt 4 20000; cold = samplesAt 4 10000 })
+  pub bench-samples : acceptedSamples benchSettings (benchScan earth) ≡ samplesWith benchSides
   unfolding benchTable benchScan tabulate acceptedCounts fourCounts withinLimits acceptedSides withoutOverlap good differs count chosenTo
-  bench-samples = samples-are (benchScan earth) _ refl refl
+  bench-samples = samples-are (benchScan earth) benchSides refl refl
 
   pub bench-kept : keptBy benchSettings (benchScan earth) ≡ benchKept
   unfolding keptScan tabulate

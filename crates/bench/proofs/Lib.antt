@@ -6,3 +6,4 @@ pub mod BenchRows
 pub mod BenchLines
 pub mod Witnesses
 pub mod Refusals
+pub mod Boundaries

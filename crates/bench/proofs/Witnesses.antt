@@ -60,11 +60,11 @@ use Rattle.promise.proofs.CountLaws.{answers-say, higher-count-higher-t}
 use Rattle.bench.proofs.BenchBytes.{bench-scan-bytes, numbered-bytes, zeros-bytes}
 use Rattle.promise.specs.SameScenes.{FedChannel, settingsOfFed, momentOfFed, fedFlag, fedNumbers, fedScene}
 use Rattle.product.specs.Product.{productSize}
-use Rattle.bench.specs.Bench.{benchTable, instrumentBytes, perChannel, shelfBytes, benchScan, benchCalibrator, benchSettings, benchMoment, benchChannel, benchT}
+use Rattle.bench.specs.Bench.{benchTable, instrumentBytes, perChannel, shelfBytes, benchScan, benchCalibrator, benchSettings, benchMoment, benchChannel, benchT, samplesAt}
 use Rattle.bench.specs.Witnesses.{rejectedScan, flaggedScan, numberedScan, zeros, rejectedList, oneOfEach, feedsBefore, replies}
 use Rattle.calibrator.proofs.Plain.{no-feed-of-bytes, feeds-of-bytes}
 use Rattle.calibrator.proofs.Verdicts.{verdict-length-wrong, verdict-field-wrong, verdict-number-not-above, verdict-buffer-short, verdict-passes}
-use Rattle.bench.proofs.BenchScan.{bench-table, bench-row, samplesAt, samplesWith, samples-are, bench-samples, bench-kept, benchKept, benchMeans, bench-tnl}
+use Rattle.bench.proofs.BenchScan.{bench-table, bench-row, samplesWith, samples-are, benchSides, bench-samples, bench-kept, benchKept, benchMeans, bench-tnl}
 use Rattle.bench.proofs.FirstFeed.{states-by-kept, Gives, first-verdict, first-word, first-reply}
 use Rattle.bench.proofs.BenchFeed.{channels-of-kept, scene-delivered, bench-gives, bench-passes, bench-reply}
 use Rattle.bench.proofs.BenchRows.{tcOf, riseOf, rise-of-target, rows}
@@ -288,12 +288,9 @@ module _ (buffer : List ℕ) (room : productSize ≤ length buffer) (c i : ℕ) 
 -- ---- the bench scan after a refused record and a scan with number 6, whose weights at age 1 are 0
 
 module _ (number earth : ℕ) where
-  abbrev sidesOfScan : Sides
-  sidesOfScan = record { warm = samplesAt 4 20000; cold = samplesAt 4 10000 }
-
-  numbered-samples : acceptedSamples benchSettings (numberedScan number earth) ≡ samplesWith sidesOfScan
+  numbered-samples : acceptedSamples benchSettings (numberedScan number earth) ≡ samplesWith benchSides
   unfolding benchTable numberedScan tabulate acceptedCounts fourCounts withinLimits acceptedSides withoutOverlap good differs count chosenTo
-  numbered-samples = samples-are (numberedScan number earth) sidesOfScan refl refl
+  numbered-samples = samples-are (numberedScan number earth) benchSides refl refl
 
   numbered-kept : keptBy benchSettings (numberedScan number earth) ≡ benchKept
   unfolding keptScan tabulate

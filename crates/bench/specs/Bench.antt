@@ -8,7 +8,7 @@ use lib.IntN.{ℤ, pos, negℤ}
 use lib.ListN.{replicate, getD}
 use Rattle.integers.specs.Rounding.{r}
 use Rattle.integers.specs.Fractions.{_/ᶠ_}
-use Rattle.lists.specs.Build.{cells}
+use Rattle.lists.specs.Build.{tabulate, cells}
 use Rattle.thermometer.specs.Rule.{F, answer}
 use Rattle.table.specs.declared.Limits.{Limits}
 use Rattle.table.specs.declared.ShelfPair.{ShelfPair}
@@ -17,7 +17,7 @@ use Rattle.table.specs.Settings.{Settings, tableLayout, settingsOf}
 use Rattle.instrument.specs.Instrument.{thermometers, channels, positions}
 use Rattle.table.specs.Opening.{ages}
 use Rattle.bias.specs.Bias.{zeroBias}
-use Rattle.samples.specs.Good.{good, atLeast}
+use Rattle.samples.specs.Good.{Sample, good, atLeast}
 use Rattle.acceptance.specs.Counts.{Sides, withinLimits, goodCounts, acceptedSides, scanValue}
 use Rattle.scene.specs.declared.Channel.{Channel}
 use Rattle.record.specs.Record.{recordLayout, shelvesSize}
@@ -154,6 +154,10 @@ limits = record { low = 0; upp = 65535; difference = 50 }
 
 abbrev pub four : ℕ → ℕ → ℕ → ℕ → List ℕ
 four a b c d = a ∷ b ∷ c ∷ d ∷ []
+
+-- samples with this value at each of the first n places
+abbrev pub samplesAt : ℕ → ℕ → List Sample
+samplesAt n value = tabulate (λ i. record { place = i; value = value }) n
 
 abbrev pub accepted : List ℕ → List ℕ → Sides
 accepted warm cold = acceptedSides (record { warm = goodCounts limits warm; cold = goodCounts limits cold })

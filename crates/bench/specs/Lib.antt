@@ -1,3 +1,4 @@
 pub mod Bench
 pub mod Witnesses
 pub mod Refusals
+pub mod Boundaries
