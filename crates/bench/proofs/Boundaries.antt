@@ -15,6 +15,8 @@ use Rattle.lists.proofs.Tabulate.{each-of-same}
 use Rattle.thermometer.specs.Rule.{M, q, s1, y, w, h, s2, F}
 use Rattle.thermometer.specs.Reading.{Result, units, notRead, reading}
 use Rattle.thermometer.proofs.Bench.{answer-at-place, bench-reading}
+use Rattle.instrument.specs.declared.Side.{Side}
+use Rattle.instrument.specs.declared.Side.the-variants.{Warm, Cold}
 use Rattle.instrument.specs.declared.Target.{Target}
 use Rattle.instrument.specs.declared.Target.the-variants.{Kav, Wg}
 use Rattle.instrument.specs.Instrument.{channels, firstOf, sizeOf, targetOf}
@@ -35,7 +37,7 @@ use Rattle.promise.proofs.RollLaws.{scanOfAge}
 use Rattle.promise.proofs.SampleLaws.{means-at-is}
 use Rattle.bench.specs.Bench.{benchTable, benchScan, benchSettings, instrumentBytes, samplesAt}
 use Rattle.bench.specs.Witnesses.{numberedScan}
-use Rattle.bench.specs.Boundaries.{withTLow, withTUpp, withDT, instrumentWith, evenWeights, sumsOfScans, ReadingEnds, ThermometerRows, CountRows, FlagRows, AgeRows, BoundaryRows}
+use Rattle.bench.specs.Boundaries.{BothSides, BothTargets, withTLow, withTUpp, withDT, instrumentWith, evenWeights, sumsOfScans, ReadingEnds, ThermometerRows, CountRows, FlagRows, AgeRows, BoundaryRows}
 use Rattle.bench.proofs.BenchScan.{benchSides, benchKept, accepted-by-readings, samples-by}
 
 -- ---- counts and flags
@@ -181,3 +183,13 @@ age-rows = record {
 
 pub boundary-rows : BoundaryRows
 boundary-rows = record { readings = reading-ends; thermometers = thermometer-rows; counts = count-rows; flags = flag-rows; ages = age-rows }
+
+-- ---- a row of both sides, or of both targets, is a row of each
+
+pub both-sides-say : (Row : Side → Type 0) → BothSides Row → (side : Side) → Row side
+both-sides-say Row both Warm = both .0
+both-sides-say Row both Cold = both .1
+
+pub both-targets-say : (Row : Target → Type 0) → BothTargets Row → (target : Target) → Row target
+both-targets-say Row both Kav = both .0
+both-targets-say Row both Wg = both .1

@@ -1,8 +1,9 @@
 -- The rows of refusals that are met at once: each test computes, and the laws of the verdicts say which comes first.
 use Prim.Native.Nat.{ℕ, _<_, _≤_}
+use native.Mathlib.Omega.{arith}
 use mathlib.Core.Path.{_≡_, refl, ap, _∙_}
 use mathlib.Core.List.{List, [], _∷_, _++_}
-use lib.ListN.{length}
+use lib.ListN.{length, replicate, length-replicate}
 use borrow.Author.Tests.{lt-ltb}
 use Rattle.lists.specs.Count.{every}
 use Rattle.lists.specs.Tests.{Verdict, passes, fails}
@@ -15,7 +16,7 @@ use Rattle.lastscan.specs.LastScan.{nothingKept}
 use Rattle.product.specs.Product.{productSize}
 use Rattle.window.specs.Ages.{windowAfter}
 use Rattle.calibrator.specs.declared.Calibrator.{Calibrator}
-use Rattle.calibrator.specs.Refusals.{verdict, refused}
+use Rattle.calibrator.specs.Refusals.{verdict, Reply, refused}
 use Rattle.calibrator.specs.Feeding.{Feed, freshOf, stepBy, verdictIn, calibratorAfter, outcomeAfter}
 use Rattle.promise.specs.Roll.{Roll, verdictAt, joinedBy}
 use Rattle.promise.specs.Restart.{rolledBy}
@@ -99,3 +100,27 @@ lookup-rows = record {
 
 pub refusal-rows : RefusalRows
 refusal-rows = record { feeds = feed-rows; openings = opening-rows; readings = reading-rows; lookups = lookup-rows }
+
+-- ---- the rows of feeds taken apart, with buffers of 8,706 and 8,705 bytes
+
+abbrev benchFed : List Feed
+benchFed = record { scan = benchScan 15000; buffer = replicate 8706 0 } ∷ []
+
+abbrev shortFeed : List ℕ → Feed
+shortFeed scan = record { scan = scan; buffer = replicate 8705 0 }
+
+rows-of-short-feeds : FeedRows (replicate 8706 0) (replicate 8705 0)
+rows-of-short-feeds =
+    refusal-rows .feeds (replicate 8706 0) (replicate 8705 0) (omega (arith, length-replicate {A = ℕ} 8706 0)) (omega (arith, length-replicate {A = ℕ} 8705 0))
+
+pub short-verdicts-say : let roll = rolledBy [] benchFed in
+    (verdictAt roll (shortFeed []) ≡ fails 4) × (verdictAt roll (shortFeed (benchScan 15000 ++ (0 ∷ []))) ≡ fails 4) × (verdictAt roll (shortFeed zeros) ≡ fails 5)
+    × (verdictAt roll (shortFeed (benchScan 15000)) ≡ fails 6) × (verdictAt roll (shortFeed (numberedScan 8 15000)) ≡ fails 7)
+short-verdicts-say =
+    let rows = rows-of-short-feeds in
+    (rows .four-of-all .0 .1, rows .four-with-right-tags .0 .1, rows .five-before-six .0 .1, rows .six-before-seven .0 .1, rows .seven-alone .0 .1)
+
+pub short-replies-say : let reply : List ℕ → Reply = λ scan. outcomeAfter benchCalibrator benchFed (shortFeed scan) .reply in
+    (reply [] ≡ refused 4) × (reply (benchScan 15000 ++ (0 ∷ [])) ≡ refused 4) × (reply zeros ≡ refused 5) × (reply (benchScan 15000) ≡ refused 6) × (reply (numberedScan 8 15000) ≡ refused 7)
+short-replies-say =
+    let rows = rows-of-short-feeds in (rows .four-of-all .1, rows .four-with-right-tags .1, rows .five-before-six .1, rows .six-before-seven .1, rows .seven-alone .1)
