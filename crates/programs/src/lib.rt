@@ -1,11 +1,13 @@
 // What the programs `listing` and `calibrate` do: both read table.bin, then bias.bin, then records from standard input, feed each record
-// and write what the crate `lines` makes of it. Nothing can be stated of what a call of C reads or writes, so nothing but these calls is
-// done here.
+// and write what the crate `lines` makes of it. Of what a call of C reads or writes nothing can be stated, so two things are open here, and
+// they are tested by runs: which bytes `read_record` and `read_file` have read, and that `hand_over` and `hand_over_stop` are called and
+// write what they are lent. What they are lent is stated, and so is all that is done with what was read.
 use bias::BIAS_SIZE;
 use calibrator::Calibrator;
 use libc::STDERR_FILENO;
 use libc::STDIN_FILENO;
 use libc::STDOUT_FILENO;
+use lines::LONGEST;
 use lines::Stop;
 use product::PRODUCT_SIZE;
 use record::RECORD_SIZE;
@@ -13,11 +15,16 @@ use table::Opening;
 use table::TABLE_SIZE;
 use table::Table;
 ghost use mathlib.Core.Path.{_≡_};
-ghost use Rattle.table.specs.Opening.{AcceptedTable};
-ghost use Rattle.calibrator.specs.Feeding.{Sound};
 ghost use Rattle.io.specs.Counts.{Counts};
-ghost use Rattle.lines.specs.Steps.{listedOf, calibratedOf};
-ghost use Rattle.programs.specs.Streams.{refusalsTo};
+ghost use Rattle.lists.specs.Build.{put};
+ghost use Rattle.table.specs.Opening.{opening, AcceptedTable};
+ghost use Rattle.bias.specs.Opening.{biasOpening};
+ghost use Rattle.calibrator.specs.Feeding.{Sound};
+ghost use Rattle.lines.specs.Lines.{stopLine};
+ghost use Rattle.programs.specs.declared.Program.the-variants as programs;
+ghost use Rattle.programs.specs.Streams.{linesTo, outputTook};
+ghost use Rattle.programs.specs.Steps.{lineOf, madeOf, productLeft, nextAfter, Refuses, Due};
+ghost use Rattle.programs.specs.Runs.{ReadTo, TurnOf, TurnIn, Ran, Unfed, UnderBias, UnderTable, UnderFiles};
 
 pub enum Program {
     // Document 01, "Listing program".
@@ -39,10 +46,11 @@ struct Got {
     next: Next,
 }
 
-// Whether standard output took all that was for it, and the calibrator that is handed back.
-struct Written {
-    complete: bool,
+// The calibrator that is handed back, and how many bytes of the line and of the product are written.
+struct Made {
     calibrator: Calibrator,
+    line: usize,
+    product: usize,
 }
 
 // What comes after a record, and the calibrator that is handed back.
@@ -51,53 +59,123 @@ struct Turned {
     calibrator: Calibrator,
 }
 
-// Says why the program ends early, as far as standard error can be written.
-fn say_stop(stop: Stop) {
-    let mut line = [0u8; lines::LONGEST];
-    let size = lines::stop_line(stop, &mut line);
-    io::write_all(STDERR_FILENO, &line[..size]);
-}
+// ---- what is made of a record
 
-// Prints the line of a record.
-fn list(calibrator: Calibrator, scan: &[u8]) -> Written
+fn list(calibrator: Calibrator, scan: &[u8], line: &mut [u8; LONGEST]) -> Made
     requires { ⌜ Sound calibrator ⌝ }
-    ensures { λ t. ⌜ t .calibrator ≡ listedOf calibrator (now (scan .entry)) .calibrator ⌝ }
-    ensures { λ t. ⌜ Sound (t .calibrator) ⌝ }
+    ensures { λ r. ⌜ Counts (r .line) (now (line .exit)) ⌝ }
+    ensures { λ r. ⌜ (r ≡ madeOf programs.Listing calibrator (now (scan .entry))) × (now (line .exit) ≡ put (now (line .entry)) 0 (lineOf programs.Listing calibrator (now (scan .entry)))) × Sound (r .calibrator) ⌝ }
 {
-    let mut line = [0u8; lines::LONGEST];
-    let listed = lines::list_record(calibrator, scan, &mut line);
-    let size = listed.size;
-    let next = listed.calibrator;
-    Written {
-        complete: io::write_all(STDOUT_FILENO, &line[..size]),
-        calibrator: next,
-    }
-}
-
-// Writes the product of a record, or its refusal. Of the two one is empty, and `write_all` makes no call for it. Products go on
-// where a refusal cannot be written.
-fn calibrate(calibrator: Calibrator, scan: &[u8]) -> Written
-    requires { ⌜ Sound calibrator ⌝ }
-    ensures { λ t. ⌜ t .calibrator ≡ calibratedOf calibrator (now (scan .entry)) .calibrator ⌝ }
-    ensures { λ t. ⌜ Sound (t .calibrator) ⌝ }
-{
-    let mut product = [0u8; PRODUCT_SIZE];
-    let mut line = [0u8; lines::LONGEST];
-    let calibrated = lines::calibrate_record(calibrator, scan, &mut product, &mut line);
-    let output = calibrated.output;
-    let errors = calibrated.errors;
-    let after = calibrated.calibrator;
-    io::write_all(STDERR_FILENO, &line[..errors]);
-    Written {
-        complete: io::write_all(STDOUT_FILENO, &product[..output]),
+    let listed = lines::list_record(calibrator, scan, line);
+    let after = listed.calibrator;
+    Made {
         calibrator: after,
+        line: listed.size,
+        product: 0,
     }
 }
+
+fn calibrate(
+    calibrator: Calibrator,
+    scan: &[u8],
+    product: &mut [u8; PRODUCT_SIZE],
+    line: &mut [u8; LONGEST],
+) -> Made
+    requires { ⌜ Sound calibrator ⌝ }
+    ensures { λ r. ⌜ Counts (r .product) (now (product .exit)) ⌝ }
+    ensures { λ r. ⌜ Counts (r .line) (now (line .exit)) ⌝ }
+    ensures { λ r. ⌜ (r ≡ madeOf programs.Calibrate calibrator (now (scan .entry))) × (now (product .exit) ≡ productLeft programs.Calibrate calibrator (now (scan .entry)) (now (product .entry))) × (now (line .exit) ≡ put (now (line .entry)) 0 (lineOf programs.Calibrate calibrator (now (scan .entry)))) × Sound (r .calibrator) ⌝ }
+{
+    let calibrated = lines::calibrate_record(calibrator, scan, product, line);
+    let after = calibrated.calibrator;
+    Made {
+        calibrator: after,
+        line: calibrated.errors,
+        product: calibrated.output,
+    }
+}
+
+// Feeds a record and writes its line and its product into the buffers.
+fn write_record(
+    program: Program,
+    calibrator: Calibrator,
+    scan: &[u8],
+    product: &mut [u8; PRODUCT_SIZE],
+    line: &mut [u8; LONGEST],
+) -> Made
+    requires { ⌜ Sound calibrator ⌝ }
+    ensures { λ r. ⌜ Counts (r .product) (now (product .exit)) ⌝ }
+    ensures { λ r. ⌜ Counts (r .line) (now (line .exit)) ⌝ }
+    ensures { λ r. ⌜ (r ≡ madeOf program calibrator (now (scan .entry))) × (now (product .exit) ≡ productLeft program calibrator (now (scan .entry)) (now (product .entry))) × (now (line .exit) ≡ put (now (line .entry)) 0 (lineOf program calibrator (now (scan .entry)))) × Sound (r .calibrator) ⌝ }
+{
+    match program {
+        Program::Listing => list(calibrator, scan, line),
+        Program::Calibrate => calibrate(calibrator, scan, product, line),
+    }
+}
+
+// Where standard output did not take all, the program ends.
+fn next_after(next: Next, complete: bool) -> Next
+    ensures { λ r. ⌜ r ≡ nextAfter next complete ⌝ }
+{
+    if complete {
+        return next;
+    }
+    Next::Stopped(Stop::OutputUnwritten)
+}
+
+// ---- what is handed over
+
+// Where the lines go.
+fn lines_to(program: Program) -> i32
+    ensures { λ fd. ⌜ fd ≡ linesTo program ⌝ }
+{
+    match program {
+        Program::Listing => STDOUT_FILENO,
+        Program::Calibrate => STDERR_FILENO,
+    }
+}
+
+// Whether standard output took all: products go on where a refusal cannot be written.
+fn output_took(program: Program, line: bool, product: bool) -> bool
+    ensures { λ r. ⌜ r ≡ outputTook program line product ⌝ }
+{
+    match program {
+        Program::Listing => line,
+        Program::Calibrate => product,
+    }
+}
+
+// Writes a line, then a product, and answers whether standard output took all. Open: that both are written to their streams. For an empty
+// one `write_all` makes no call.
+fn hand_over(program: Program, line: &[u8], product: &[u8]) -> bool
+    requires { ⌜ Due program (now line) (now product) ⌝ }
+{
+    let line_taken = io::write_all(lines_to(program), line);
+    let product_taken = io::write_all(STDOUT_FILENO, product);
+    output_took(program, line_taken, product_taken)
+}
+
+// Says why the program ends early, as far as standard error can be written. Open: that it is written there.
+fn hand_over_stop(stop: Stop, line: &[u8])
+    requires { ⌜ now line ≡ stopLine stop ⌝ }
+{
+    io::write_all(STDERR_FILENO, line);
+}
+
+fn say_stop(stop: Stop) {
+    let mut line = [0u8; LONGEST];
+    let size = lines::stop_line(stop, &mut line);
+    hand_over_stop(stop, &line[..size]);
+}
+
+// ---- turns
 
 // Reads until the record is full, the input ends or a read fails, which `io::read_full` does not tell apart. Nothing is read behind an end:
-// a named pipe may get another writer.
+// a named pipe may get another writer. Open: which bytes were read.
 fn read_record(scan: &mut [u8; RECORD_SIZE]) -> Got
     ensures { λ r. ⌜ Counts (r .size) (now (scan .exit)) ⌝ }
+    ensures { λ r. ⌜ ReadTo (r .size) (r .next) ⌝ }
 {
     let whole: &mut [u8] = scan;
     let mut size = 0;
@@ -124,89 +202,80 @@ fn read_record(scan: &mut [u8; RECORD_SIZE]) -> Got
     }
 }
 
-// Feeds a record and writes what the program makes of it.
-fn write_record(program: Program, calibrator: Calibrator, scan: &[u8]) -> Written
+// Deals with what was read. What came before an end or a failed read is a short record, which is refused.
+fn step(program: Program, calibrator: Calibrator, scan: &[u8], next: Next) -> Turned
     requires { ⌜ Sound calibrator ⌝ }
-    ensures { λ w. ⌜ Sound (w .calibrator) ⌝ }
+    ensures { λ t. ⌜ TurnOf calibrator (now (scan .entry)) next t × Sound (t .calibrator) ⌝ }
 {
-    match program {
-        Program::Listing => list(calibrator, scan),
-        Program::Calibrate => calibrate(calibrator, scan),
-    }
-}
-
-// Reads a record and deals with it. What came before an end or a failed read is a short record, which is refused.
-fn turn(program: Program, calibrator: Calibrator) -> Turned
-    requires { ⌜ Sound calibrator ⌝ }
-    ensures { λ t. ⌜ Sound (t .calibrator) ⌝ }
-{
-    let mut scan = [0u8; RECORD_SIZE];
-    let got = read_record(&mut scan);
-    let size = got.size;
-    let next = got.next;
-    if size == 0 {
+    if scan.len() == 0 {
         return Turned { next, calibrator };
     }
-    let written = write_record(program, calibrator, &scan[..size]);
-    let after = written.calibrator;
-    if !written.complete {
-        return Turned {
-            next: Next::Stopped(Stop::OutputUnwritten),
-            calibrator: after,
-        };
-    }
+    let mut product = [0u8; PRODUCT_SIZE];
+    let mut line = [0u8; LONGEST];
+    let made = write_record(program, calibrator, scan, &mut product, &mut line);
+    let after = made.calibrator;
+    let line_size = made.line;
+    let product_size = made.product;
+    let complete = hand_over(program, &line[..line_size], &product[..product_size]);
     Turned {
-        next,
+        next: next_after(next, complete),
         calibrator: after,
     }
 }
 
-// A proved loop has to end: it counts its turns down from a number that no stream of records uses up.
-fn each_record(program: Program, calibrator: Calibrator)
+// Reads a record into the buffer and deals with it.
+fn turn(program: Program, calibrator: Calibrator, scan: &mut [u8; RECORD_SIZE]) -> Turned
     requires { ⌜ Sound calibrator ⌝ }
+    ensures { λ t. ⌜ TurnIn calibrator (now (scan .exit)) t × Sound (t .calibrator) ⌝ }
 {
+    let got = read_record(scan);
+    let size = got.size;
+    let next = got.next;
+    let whole: &[u8] = scan;
+    step(program, calibrator, &whole[..size], next)
+}
+
+// A proved loop has to end: it counts its turns down from a number that no stream of records uses up.
+fn each_record(program: Program, calibrator: Calibrator) -> Turned
+    requires { ⌜ Sound calibrator ⌝ }
+    ensures { λ t. ⌜ Ran calibrator t ⌝ }
+{
+    let mut scan = [0u8; RECORD_SIZE];
     let mut state = calibrator;
     let mut turns = u64::MAX;
     while turns > 0 {
-        let t = turn(program, state);
-        state = t.calibrator;
+        let t = turn(program, state, &mut scan);
         let next = t.next;
         match next {
-            Next::More => turns -= 1,
-            Next::Ended => return,
-            Next::Stopped(stop) => {
-                say_stop(stop);
-                return;
+            Next::More => {
+                state = t.calibrator;
+                turns -= 1;
             }
+            Next::Ended => return t,
+            Next::Stopped(_) => return t,
         }
     }
+    Turned {
+        next: Next::More,
+        calibrator: state,
+    }
 }
 
-// Where the line of a refused table or bias file goes.
-fn refusals_to(program: Program) -> i32
-    ensures { λ fd. ⌜ fd ≡ refusalsTo program ⌝ }
+// ---- the files
+
+// The line of a refused table or bias file. Where standard error does not take that line, it takes no other.
+fn refuse(program: Program, answer: Opening) -> Next
+    requires { ⌜ Refuses answer ⌝ }
+    ensures { λ next. ⌜ Unfed next ⌝ }
 {
-    match program {
-        Program::Listing => STDOUT_FILENO,
-        Program::Calibrate => STDERR_FILENO,
-    }
-}
-
-// Writes the line of a refused table or bias file. Where standard error does not take that line, it takes no other.
-fn refuse(program: Program, answer: Opening) {
-    let mut line = [0u8; lines::LONGEST];
+    let mut line = [0u8; LONGEST];
     let size = lines::opening_line(answer, &mut line);
-    let to = refusals_to(program);
-    if io::write_all(to, &line[..size]) {
-        return;
-    }
-    if to == STDOUT_FILENO {
-        say_stop(Stop::OutputUnwritten);
-    }
+    let complete = hand_over(program, &line[..size], b"");
+    next_after(Next::Ended, complete)
 }
 
 // Reads a file of the working directory, as far as `bytes` has room, and answers how many bytes were read: none where it cannot be opened
-// or read. Room for one byte more than an accepted file has tells a longer one.
+// or read. Room for one byte more than an accepted file has tells a longer one. Open: which bytes were read.
 fn read_file(name: &[u8], bytes: &mut [u8]) -> usize
     ensures { λ r. ⌜ Counts r (now (bytes .exit)) ⌝ }
 {
@@ -220,33 +289,46 @@ fn read_file(name: &[u8], bytes: &mut [u8]) -> usize
 }
 
 // A refused bias file gives its line alone, and no record is read.
-fn with_bias(program: Program, table: Table, bytes: &[u8])
+fn with_bias(program: Program, table: Table, bytes: &[u8]) -> Next
     requires { ⌜ AcceptedTable (table .bytes) ⌝ }
+    ensures { λ next. ⌜ UnderBias (biasOpening (now (bytes .entry))) table (now (bytes .entry)) next ⌝ }
 {
     let opened = bias::open(bytes);
     let answer = opened.answer;
     match answer {
-        Opening::Accepted => each_record(program, Calibrator::fresh(table, opened.bias())),
+        Opening::Accepted => each_record(program, Calibrator::fresh(table, opened.bias())).next,
         _ => refuse(program, answer),
     }
 }
 
 // A refused table gives its line alone, and bias.bin is not even opened: it may be a named pipe that nobody writes to.
-fn with_table(program: Program, bytes: &[u8]) {
+fn with_table(program: Program, bytes: &[u8]) -> Next
+    ensures { λ next. ⌜ UnderTable (opening (now (bytes .entry))) (now (bytes .entry)) next ⌝ }
+{
     let opened = table::open(bytes);
     let answer = opened.answer;
     match answer {
         Opening::Accepted => {
             let mut pairs = [0u8; BIAS_SIZE + 1];
             let n = read_file(b"bias.bin", &mut pairs);
-            with_bias(program, opened.table(), &pairs[..n]);
+            with_bias(program, opened.table(), &pairs[..n])
         }
         _ => refuse(program, answer),
     }
 }
 
-pub fn run(program: Program) {
+fn with_files(program: Program) -> Next
+    ensures { λ next. ⌜ UnderFiles next ⌝ }
+{
     let mut bytes = [0u8; TABLE_SIZE + 1];
     let n = read_file(b"table.bin", &mut bytes);
-    with_table(program, &bytes[..n]);
+    with_table(program, &bytes[..n])
+}
+
+pub fn run(program: Program) {
+    let next = with_files(program);
+    match next {
+        Next::Stopped(stop) => say_stop(stop),
+        _ => {}
+    }
 }

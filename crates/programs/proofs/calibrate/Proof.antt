@@ -1,45 +1,42 @@
--- `programs::calibrate` meets its contract, which is what `lines::calibrate_record` says of the calibrator.
-use mathlib.Core.Path.{ap}
+-- `programs::calibrate` meets its contract, which is what `lines::calibrate_record` says of the calibrator, the line and the product.
+use Prim.Native.Nat.{ℕ}
+use mathlib.Core.Path.{ap, sym, _∙_}
+use lib.ListN.{length}
+use denote.Ref.{now}
 use Rattle.lines.specs.declared.Calibrated.{Calibrated}
+use Rattle.lines.specs.Steps.{recordFed, calibratedLine, calibratedOf}
+use Rattle.programs.specs.declared.Made.{Made}
+use Rattle.programs.specs.Steps.{lineOf, productLeft, madeOf}
+use Rattle.programs.proofs.StepLaws.{written-size}
 use borrow.Author.Needs.{needs}
 use Rattle.programs.proofs.calibrate.Statement.{statement}
 use Rattle.programs.proofs.calibrate.Tie as tie
 
+abbrev madeBy : Calibrated → Made
+madeBy l = record { calibrator = l .calibrator; line = l .errors; product = l .output }
+
 calibrate-record-requires : tie.Need-calibrate-record-requires
 calibrate-record-requires c κs = search needs
 
-array-share-prefix-line : tie.Need-array-share-prefix-line
-array-share-prefix-line c = search needs
-
-slice-aggregate-write-all : tie.Need-slice-aggregate-write-all
-slice-aggregate-write-all c = search needs
-
-write-all-requires : tie.Need-write-all-requires
-write-all-requires c κs = search needs
-
-array-share-prefix-product : tie.Need-array-share-prefix-product
-array-share-prefix-product c = search needs
-
-slice-aggregate-write-all-2 : tie.Need-slice-aggregate-write-all-2
-slice-aggregate-write-all-2 c = search needs
-
-write-all-requires-2 : tie.Need-write-all-requires-2
-write-all-requires-2 c κs = search needs
-
 returns : tie.Need-returns
+unfolding calibratedOf lineOf productLeft madeOf
 returns c =
-    let told = c .before .before .before .before .before .calibrate-record .ensures in
-    (ap (λ (l : Calibrated). l .calibrator) (told .1 .1 .0), told .1 .1 .3)
+    let told = c .before .calibrate-record .ensures in
+    let a = c .before .before .before .before .before .args in
+    let before = a .calibrator in
+    let scan = now (a .scan) in (
+      told .0,
+      (
+        told .1 .0,
+        (
+          ap madeBy (told .1 .1 .0)
+              ∙ ap (λ (n : ℕ). record { calibrator = recordFed before scan .calibrator; line = length (calibratedLine before scan); product = n }) (sym (written-size before scan)),
+          told .1 .1 .1,
+          told .1 .1 .2,
+          told .1 .1 .3,
+        ),
+      ),
+    )
 
 pub calibrate-spec : {M : Type 1} → statement M
-calibrate-spec =
-    tie.close
-    (tie.spec
-    calibrate-record-requires
-    array-share-prefix-line
-    slice-aggregate-write-all
-    write-all-requires
-    array-share-prefix-product
-    slice-aggregate-write-all-2
-    write-all-requires-2
-    returns)
+calibrate-spec = tie.close (tie.spec calibrate-record-requires returns)

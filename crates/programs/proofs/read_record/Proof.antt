@@ -1,7 +1,7 @@
 -- `read_record` meets its contract. The loop's invariant: what was read fits the record. Each turn but the last reads at least one byte.
 use Prim.Native.Nat.{_-_, _≤_}
 use native.Mathlib.Omega.{arith}
-use mathlib.Core.Path.{_≡_}
+use mathlib.Core.Path.{_≡_, refl}
 use lib.ListN.{length, length-take}
 use borrow.Author.Needs.{needs}
 use Rattle.programs.proofs.read_record.Statement.{statement}
@@ -29,7 +29,7 @@ read-requires : tie.Need-read-requires Inv-loop μ-loop
 read-requires c κs = search needs
 
 returns : tie.Need-returns Inv-loop μ-loop
-returns c = (omega arith, simp length-take (omega arith))
+returns c = ((omega arith, simp length-take (omega arith)), (omega arith, refl))
 
 sub-count : tie.Need-sub-count Inv-loop μ-loop
 sub-count c = omega arith
@@ -44,7 +44,7 @@ count-requires : tie.Need-count-requires Inv-loop μ-loop
 count-requires c κs = search needs
 
 returns-2 : tie.Need-returns-2 Inv-loop μ-loop
-returns-2 c = (omega arith, simp length-take (omega arith))
+returns-2 c = ((omega arith, simp length-take (omega arith)), omega arith)
 
 add-size : tie.Need-add-size Inv-loop μ-loop
 add-size c = omega arith
@@ -56,7 +56,7 @@ loop-again : tie.Need-loop-again Inv-loop μ-loop
 loop-again c = (omega arith, search needs)
 
 returns-3 : tie.Need-returns-3 Inv-loop μ-loop
-returns-3 c = (omega arith, simp length-take (omega arith))
+returns-3 c = ((omega arith, simp length-take (omega arith)), omega arith)
 
 pub read-record-spec : {M : Type 1} → statement M
 read-record-spec =
