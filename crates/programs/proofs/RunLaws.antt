@@ -55,10 +55,10 @@ fed-whole-when-more {c} {buffer} {t} turn more =
 
 -- ---- turns in a row
 
-after-one-more : (c : Calibrator) (feeds : List Feed) (feed : Feed) → calibratorAfter c (feeds ++ (feed ∷ [])) ≡ step (calibratorAfter c feeds) feed .calibrator
+pub after-appended : (c : Calibrator) (feeds more : List Feed) → calibratorAfter c (feeds ++ more) ≡ calibratorAfter (calibratorAfter c feeds) more
 unfolding calibratorAfter
-after-one-more c [] feed = refl
-after-one-more c (next ∷ feeds) feed = after-one-more (step c next .calibrator) feeds feed
+after-appended c [] more = refl
+after-appended c (feed ∷ feeds) more = after-appended (step c feed .calibrator) feeds more
 
 pub reached-none : (first : Calibrator) → Reached first 0 first
 unfolding calibratorAfter
@@ -66,6 +66,7 @@ reached-none first = record { feeds = []; many = refl; whole = all-none WholeFee
 
 pub reached-one-more : {first c : Calibrator} {n m : ℕ} {buffer : List ℕ} {t : Turned} → Reached first n c → TurnIn c buffer t → t .next ≡ More → m ≡ n + 1
     → Reached first m (t .calibrator)
+unfolding calibratorAfter
 reached-one-more {first} {c} {n} {m} {buffer} {t} reached turn more one-more =
     let fed = fed-whole-when-more turn more in
     let feed : Feed = record { scan = take (turn .size) buffer; buffer = emptyProduct } in record {
@@ -75,7 +76,7 @@ reached-one-more {first} {c} {n} {m} {buffer} {t} reached turn more one-more =
       calibrator-is =
           fed .calibrator-is
           ∙ ap (λ (d : Calibrator). recordFed d (feed .scan) .calibrator) (reached .calibrator-is)
-          ∙ sym (after-one-more first (reached .feeds) feed);
+          ∙ sym (after-appended first (reached .feeds) (feed ∷ []));
     }
 
 -- ---- a whole run

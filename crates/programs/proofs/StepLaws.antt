@@ -27,7 +27,7 @@ use Rattle.programs.specs.declared.Program.{Program}
 use Rattle.programs.specs.declared.Program.the-variants.{Listing, Calibrate}
 use Rattle.programs.specs.declared.Next.{Next}
 use Rattle.programs.specs.declared.Made.{Made}
-use Rattle.programs.specs.Steps.{lineOf, productBy, writtenProduct, madeOf, productLeft, nextAfter, turnedOf, Refuses, Due, of-record}
+use Rattle.programs.specs.Steps.{lineOf, productBy, writtenProduct, madeOf, productLeft, nextAfter, turnedOf, Refuses, Together, of-record}
 
 -- a line that was put at the front of a buffer
 pub front-of-put : {size : ℕ} {out : List ℕ} (b line : List ℕ) → size ≡ length line → out ≡ put b 0 line → take size out ≡ line
@@ -89,11 +89,11 @@ module _ (c : Calibrator) (scan : List ℕ) where
       ap (λ (w : Verdict). take (length (writtenBy v)) (outcomeBy w b .buffer)) (same-verdict b long) ∙ front-by v b long
 
   -- the bytes of a step, as they stand in the buffers that `write_record` left
-  pub due-of-record : {program : Program} {made : Made} {productOut lineOut : List ℕ} (product₀ line₀ : List ℕ) → Sound c → 0 < length scan → length product₀ ≡ productSize
+  pub together-of-record : {program : Program} {made : Made} {productOut lineOut : List ℕ} (product₀ line₀ : List ℕ) → Sound c → 0 < length scan → length product₀ ≡ productSize
       → made ≡ madeOf program c scan → productOut ≡ productLeft program c scan product₀ → lineOut ≡ put line₀ 0 (lineOf program c scan)
-      → Due program (take (made .line) lineOut) (take (made .product) productOut)
+      → Together program (take (made .line) lineOut) (take (made .product) productOut)
   unfolding madeOf
-  due-of-record {program} {made} {productOut} {lineOut} product₀ line₀ sound some long is product-is line-is =
+  together-of-record {program} {made} {productOut} {lineOut} product₀ line₀ sound some long is product-is line-is =
       of-record c scan sound some
       (front-of-put line₀ (lineOf program c scan) (ap (λ (m : Made). m .line) is) line-is)
       (rw (product-is, ap (λ (m : Made). m .product) is) (front-of-product program product₀ long))

@@ -1,9 +1,10 @@
 -- What a program makes of one record: its line, the bytes of its product that are written, the calibrator and what comes after the record.
--- And what a program hands over to its streams: the line and the product of one and the same record, or the line of a refused file.
+-- And what it writes to which stream: the line and the product of one and the same record, the line of a refused file, or its last line.
 use Prim.Native.Nat.{ℕ, _<_}
 use mathlib.Core.Path.{_≡_}
 use mathlib.Core.Bool.{Bool, true, false}
 use mathlib.Core.List.{List, [], _∷_}
+use lib.IntN.{ℤ}
 use lib.ListN.{length}
 use Rattle.lists.specs.Tests.{fails}
 use Rattle.table.specs.declared.Opening.{Opening}
@@ -13,7 +14,7 @@ use Rattle.calibrator.specs.Refusals.{Reply, delivered, refused}
 use Rattle.calibrator.specs.Feeding.{step, Sound}
 use Rattle.lines.specs.declared.Stop.{Stop}
 use Rattle.lines.specs.declared.Stop.the-variants.{OutputUnwritten}
-use Rattle.lines.specs.Lines.{openingLine}
+use Rattle.lines.specs.Lines.{openingLine, stopLine}
 use Rattle.lines.specs.Steps.{recordFed, listedLine, calibratedLine}
 use Rattle.programs.specs.declared.Program.{Program}
 use Rattle.programs.specs.declared.Program.the-variants.{Listing, Calibrate}
@@ -21,6 +22,7 @@ use Rattle.programs.specs.declared.Next.{Next}
 use Rattle.programs.specs.declared.Next.the-variants.{Stopped}
 use Rattle.programs.specs.declared.Made.{Made}
 use Rattle.programs.specs.declared.Turned.{Turned}
+use Rattle.programs.specs.Streams.{standardOutput, standardError, linesTo}
 
 -- ---- what is made of a record
 
@@ -63,16 +65,23 @@ unfoldable pub turnedOf : Calibrator → (scan : List ℕ) → Next → (complet
 turnedOf c [] next complete = record { next = next; calibrator = c }
 turnedOf c (byte ∷ more) next complete = record { next = nextAfter next complete; calibrator = recordFed c (byte ∷ more) .calibrator }
 
--- ---- what is handed over
+-- ---- what is written
 
 -- an opening that is a refusal, with its number
 pub record Refuses (answer : Opening) : Type 0 where
   pub number : ℕ
   pub fails-with : verdictOf answer ≡ fails number
 
-pub data Due (program : Program) (line product : List ℕ) : Type 0 where
+-- a line and a product that belong together
+pub data Together (program : Program) (line product : List ℕ) : Type 0 where
   -- of a record that has bytes, under a calibrator of a run
   of-record : (c : Calibrator) (scan : List ℕ) → Sound c → 0 < length scan → line ≡ lineOf program c scan → product ≡ writtenProduct program c scan
-      → Due program line product
-  -- of a refused table or bias file
-  of-refusal : (answer : Opening) → Refuses answer → line ≡ openingLine (verdictOf answer) → product ≡ [] → Due program line product
+      → Together program line product
+  -- of a refused table or bias file, which has no product
+  of-refusal : (answer : Opening) → Refuses answer → line ≡ openingLine (verdictOf answer) → product ≡ [] → Together program line product
+
+-- the bytes that a program writes to a stream
+pub data Due (program : Program) (to : ℤ) (bytes : List ℕ) : Type 0 where
+  line-due : (product : List ℕ) → Together program bytes product → to ≡ linesTo program → Due program to bytes
+  product-due : (line : List ℕ) → Together program line bytes → to ≡ standardOutput → Due program to bytes
+  stop-due : (stop : Stop) → bytes ≡ stopLine stop → to ≡ standardError → Due program to bytes

@@ -20,10 +20,9 @@ ghost use Rattle.lists.specs.Build.{put};
 ghost use Rattle.table.specs.Opening.{opening, AcceptedTable};
 ghost use Rattle.bias.specs.Opening.{biasOpening};
 ghost use Rattle.calibrator.specs.Feeding.{Sound};
-ghost use Rattle.lines.specs.Lines.{stopLine};
 ghost use Rattle.programs.specs.declared.Program.the-variants as programs;
 ghost use Rattle.programs.specs.Streams.{linesTo, outputTook};
-ghost use Rattle.programs.specs.Steps.{lineOf, madeOf, productLeft, nextAfter, Refuses, Due};
+ghost use Rattle.programs.specs.Steps.{lineOf, madeOf, productLeft, nextAfter, Refuses, Together, Due};
 ghost use Rattle.programs.specs.Runs.{ReadTo, TurnOf, TurnIn, Ran, Unfed, UnderBias, UnderTable, UnderFiles};
 
 pub enum Program {
@@ -124,7 +123,7 @@ fn next_after(next: Next, complete: bool) -> Next
     Next::Stopped(Stop::OutputUnwritten)
 }
 
-// ---- what is handed over
+// ---- what is written
 
 // Where the lines go.
 fn lines_to(program: Program) -> i32
@@ -146,27 +145,27 @@ fn output_took(program: Program, line: bool, product: bool) -> bool
     }
 }
 
-// Writes a line, then a product, and answers whether standard output took all. Open: that both are written to their streams. For an empty
-// one `write_all` makes no call.
-fn hand_over(program: Program, line: &[u8], product: &[u8]) -> bool
-    requires { ⌜ Due program (now line) (now product) ⌝ }
+// The one call of `write`. Open: that the bytes, which are stated, are written to the stream, which is stated, and that the answer says so.
+fn write_to(program: Program, to: i32, bytes: &[u8]) -> bool
+    requires { ⌜ Due program to (now bytes) ⌝ }
 {
-    let line_taken = io::write_all(lines_to(program), line);
-    let product_taken = io::write_all(STDOUT_FILENO, product);
+    io::write_all(to, bytes)
+}
+
+// Writes a line, then a product, and answers whether standard output took all. For an empty one no call is made.
+fn hand_over(program: Program, line: &[u8], product: &[u8]) -> bool
+    requires { ⌜ Together program (now line) (now product) ⌝ }
+{
+    let line_taken = write_to(program, lines_to(program), line);
+    let product_taken = write_to(program, STDOUT_FILENO, product);
     output_took(program, line_taken, product_taken)
 }
 
-// Says why the program ends early, as far as standard error can be written. Open: that it is written there.
-fn hand_over_stop(stop: Stop, line: &[u8])
-    requires { ⌜ now line ≡ stopLine stop ⌝ }
-{
-    io::write_all(STDERR_FILENO, line);
-}
-
-fn say_stop(stop: Stop) {
+// Says why the program ends early, as far as standard error can be written.
+fn say_stop(program: Program, stop: Stop) {
     let mut line = [0u8; LONGEST];
     let size = lines::stop_line(stop, &mut line);
-    hand_over_stop(stop, &line[..size]);
+    write_to(program, STDERR_FILENO, &line[..size]);
 }
 
 // ---- turns
@@ -328,7 +327,7 @@ fn with_files(program: Program) -> Next
 pub fn run(program: Program) {
     let next = with_files(program);
     match next {
-        Next::Stopped(stop) => say_stop(stop),
+        Next::Stopped(stop) => say_stop(program, stop),
         _ => {}
     }
 }

@@ -1,6 +1,7 @@
--- `say_stop` hands over the line that `lines::stop_line` made.
-use denote.Ref.{now}
+-- `say_stop` meets what `write_to` asks: the line is the one that `lines::stop_line` made.
+use mathlib.Core.Path.{refl}
 use Rattle.lines.specs.Lines.{stopLine}
+use Rattle.programs.specs.Steps.{stop-due}
 use Rattle.programs.proofs.StepLaws.{front-of-put}
 use borrow.Author.Needs.{needs}
 use Rattle.programs.proofs.say_stop.Statement.{statement}
@@ -12,12 +13,13 @@ stop-line-requires c κs = search needs
 array-share-prefix-line : tie.Need-array-share-prefix-line
 array-share-prefix-line c = search needs
 
-slice-aggregate-hand-over-stop : tie.Need-slice-aggregate-hand-over-stop
-slice-aggregate-hand-over-stop c = search needs
+slice-aggregate-write-to : tie.Need-slice-aggregate-write-to
+slice-aggregate-write-to c = search needs
 
-hand-over-stop-requires : tie.Need-hand-over-stop-requires
-hand-over-stop-requires c κs =
-    let made = c .before .stop-line .ensures .1 in front-of-put _ (stopLine (c .before .before .before .args .stop)) (made .0) (made .1)
+write-to-requires : tie.Need-write-to-requires
+write-to-requires c κs =
+    let made = c .before .stop-line .ensures .1 in
+    let stop = c .before .before .before .args .stop in stop-due stop (front-of-put _ (stopLine stop) (made .0) (made .1)) refl
 
 returns : tie.Need-returns
 returns c = search needs
@@ -28,6 +30,6 @@ say-stop-spec =
     (tie.spec
     stop-line-requires
     array-share-prefix-line
-    slice-aggregate-hand-over-stop
-    hand-over-stop-requires
+    slice-aggregate-write-to
+    write-to-requires
     returns)

@@ -7,7 +7,7 @@ use Rattle.calibrator.specs.declared.Calibrator.{Calibrator}
 use Rattle.programs.specs.declared.Next.{Next}
 use Rattle.programs.specs.declared.Made.{Made}
 use Rattle.programs.specs.Steps.{madeOf}
-use Rattle.programs.proofs.StepLaws.{due-of-record, turn-with-nothing, turn-with-bytes}
+use Rattle.programs.proofs.StepLaws.{together-of-record, turn-with-nothing, turn-with-bytes}
 use borrow.Author.Needs.{needs}
 use Rattle.programs.proofs.step.Statement.{statement}
 use Rattle.programs.proofs.step.Tie as tie
@@ -36,7 +36,7 @@ hand-over-requires : tie.Need-hand-over-requires
 hand-over-requires c κs =
     let made = c .before .before .before .write-record .ensures .1 .1 in
     let start = c .before .before .before .before .before .before .before .before in
-    due-of-record (start .args .calibrator) (now (start .args .scan)) _ _ (start .pre) (omega arith) (omega arith) (made .0) (made .1) (made .2)
+    together-of-record (start .args .calibrator) (now (start .args .scan)) _ _ (start .pre) (omega arith) (omega arith) (made .0) (made .1) (made .2)
 
 next-after-requires : tie.Need-next-after-requires
 next-after-requires c κs = search needs
