@@ -212,13 +212,13 @@ fn step(program: Program, calibrator: Calibrator, scan: &[u8], next: Next) -> Tu
     let mut product = [0u8; PRODUCT_SIZE];
     let mut line = [0u8; LONGEST];
     let made = write_record(program, calibrator, scan, &mut product, &mut line);
-    let after = made.calibrator;
+    let handed_back = made.calibrator;
     let line_size = made.line;
     let product_size = made.product;
     let complete = hand_over(program, &line[..line_size], &product[..product_size]);
     Turned {
         next: next_after(next, complete),
-        calibrator: after,
+        calibrator: handed_back,
     }
 }
 
