@@ -9,7 +9,7 @@ use lib.IntN.{pos}
 use lib.Signed.{leZ-yes, ltZ-yes}
 use Rattle.integers.specs.Rounding.{floor}
 use Rattle.lists.specs.Build.{tabulate}
-use Rattle.lists.specs.Count.{count}
+use Rattle.lists.specs.Count.{count, every}
 use Rattle.lists.specs.Sum.{sum}
 use Rattle.lists.proofs.Tabulate.{each-of-same}
 use Rattle.thermometer.specs.Rule.{M, q, s1, y, w, h, s2, F}
@@ -21,6 +21,8 @@ use Rattle.instrument.specs.declared.Target.{Target}
 use Rattle.instrument.specs.declared.Target.the-variants.{Kav, Wg}
 use Rattle.instrument.specs.Instrument.{channels, firstOf, sizeOf, targetOf}
 use Rattle.table.specs.Settings.{Settings}
+use Rattle.table.specs.Ranges.{leastsInside, thermometerLimitsInside, channelInside, pairInside, sumsInside, valuesInside}
+use Rattle.bias.specs.Opening.{partInside}
 use Rattle.samples.specs.Good.{differs, good, chosenTo, goodSamples, atLeast}
 use Rattle.acceptance.specs.declared.Scan.{Scan}
 use Rattle.acceptance.specs.Counts.{fourCounts, withinLimits, withoutOverlap, acceptedSides}
@@ -37,8 +39,14 @@ use Rattle.promise.proofs.RollLaws.{scanOfAge}
 use Rattle.promise.proofs.SampleLaws.{means-at-is}
 use Rattle.bench.specs.Bench.{benchTable, benchScan, benchSettings, instrumentBytes, samplesAt}
 use Rattle.bench.specs.Witnesses.{numberedScan}
-use Rattle.bench.specs.Boundaries.{BothSides, BothTargets, withTLow, withTUpp, withDT, instrumentWith, evenWeights, sumsOfScans, ReadingEnds, ThermometerRows, CountRows, FlagRows, AgeRows, BoundaryRows}
+use Rattle.bench.specs.Boundaries.{BothSides, BothTargets, endPart, withTLow, withTUpp, withDT, instrumentWith, evenWeights, sumsOfScans, RangeRows, ReadingEnds, ThermometerRows, CountRows, FlagRows, AgeRows, BoundaryRows}
 use Rattle.bench.proofs.BenchScan.{benchSides, benchKept, accepted-by-readings, samples-by}
+
+-- ---- the ranges of a table and of a bias file
+
+range-rows : RangeRows
+unfolding partInside endPart valuesInside leastsInside thermometerLimitsInside channelInside pairInside sumsInside every sum
+range-rows = record { low-ends = refl; high-ends = refl; bias-low-ends = refl; bias-high-ends = refl }
 
 -- ---- counts and flags
 
@@ -182,7 +190,7 @@ age-rows = record {
 }
 
 pub boundary-rows : BoundaryRows
-boundary-rows = record { readings = reading-ends; thermometers = thermometer-rows; counts = count-rows; flags = flag-rows; ages = age-rows }
+boundary-rows = record { ranges = range-rows; readings = reading-ends; thermometers = thermometer-rows; counts = count-rows; flags = flag-rows; ages = age-rows }
 
 -- ---- a row of both sides, or of both targets, is a row of each
 

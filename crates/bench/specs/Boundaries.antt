@@ -1,11 +1,11 @@
--- Document 01, "One thermometer", "Acceptance (section 6.6)" and "Window and flags", at their ends: of each pair of rows one is at an end, and one
--- is one beyond it. The tables are the bench table with other values in field 0x10.
+-- Document 01, "The table", "One thermometer", "Acceptance (section 6.6)" and "Window and flags", at their ends: of each pair of
+-- rows one is at an end, and one is one beyond it. The tables are the bench table with other values in field 0x10.
 use Prim.Native.Nat.{ℕ, _+_, _*_, _-_, _<_}
 use mathlib.Core.Path.{_≡_}
 use mathlib.Core.List.{List, [], _∷_, _++_}
-use mathlib.Core.Bool.{cond}
-use lib.Dec.{ltb}
-use lib.IntN.{pos}
+use mathlib.Core.Bool.{Bool, true, false, cond}
+use lib.Dec.{eqb, ltb}
+use lib.IntN.{ℤ, pos, negℤ, _-ℤ_}
 use lib.ListN.{length, drop, replicate}
 use Rattle.lists.specs.Build.{put, cells}
 use Rattle.fields.specs.Numbers.{u16Bytes, u32Bytes}
@@ -15,10 +15,14 @@ use Rattle.instrument.specs.declared.Side.{Side}
 use Rattle.instrument.specs.declared.Side.the-variants.{Warm, Cold}
 use Rattle.instrument.specs.declared.Target.{Target}
 use Rattle.instrument.specs.declared.Target.the-variants.{Kav, Wg}
-use Rattle.instrument.specs.Instrument.{channels, sizeOf, targetOf}
+use Rattle.instrument.specs.Instrument.{channels, positions, sizeOf, targetOf}
 use Rattle.table.specs.declared.Limits.{Limits}
+use Rattle.table.specs.declared.Thermometer.{Thermometer}
+use Rattle.table.specs.declared.ShelfPair.{ShelfPair}
 use Rattle.table.specs.Settings.{ChannelSettings, Settings, tableLayout, settingsOf}
+use Rattle.table.specs.Ranges.{valuesInside}
 use Rattle.table.specs.Opening.{ages}
+use Rattle.bias.specs.Opening.{partInside}
 use Rattle.samples.specs.Good.{Sample}
 use Rattle.acceptance.specs.Accepted.{acceptedThermometers, acceptedCounts}
 use Rattle.window.specs.declared.Means.{Means}
@@ -39,6 +43,70 @@ BothTargets Row = Row Kav × Row Wg
 -- what the bench table says with these bytes in field 0x10, from this byte of its value on
 abbrev pub settingsWith : ℕ → List ℕ → Settings
 settingsWith at bytes = settingsOf ages (put benchTable (valueStart (tableLayout ages) 0 + at) bytes)
+
+-- ---- the ranges of a table and of a bias file. Laws `accepted-ranges` and `accepted-bias-ranges` have what lies beyond them.
+
+-- every value and every sum at the low end of its range, or every one at the high end: one weight is the sum, T_low and T_upp are equal, low and upp
+-- of a count are equal, and the shelf temperatures rise by one
+module _ (high : Bool) where
+  abbrev pub endOf : (least most : ℕ) → ℕ
+  endOf least most = cond high most least
+
+  -- of a range from -m to m
+  abbrev pub signedEnd : ℕ → ℤ
+  signedEnd m = cond high (pos m) (negℤ (pos m))
+
+  abbrev pub firstWeight : ℕ → ℕ
+  firstWeight k = cond (eqb k 0) (endOf 1 255) 0
+
+  abbrev pub endThermometer : ℕ → Thermometer
+  endThermometer i = record {
+    p = cond (ltb i (sizeOf Kav)) (firstWeight i) (firstWeight (i - sizeOf Kav));
+    r0 = endOf 1000 4000000;
+    alpha = endOf 3000000 5000000;
+    delta = endOf 0 2000000;
+    beta = endOf 0 500000;
+  }
+
+  abbrev pub endPair : ℕ → ShelfPair
+  endPair j = record { shelf = cond high (pos (245756 + j)) (pos j -ℤ pos 245760); tnl = signedEnd 8192 }
+
+  abbrev pub endChannel : ChannelSettings
+  endChannel = record {
+    limits = λ side. record { low = endOf 0 65535; upp = endOf 0 65535; difference = endOf 0 65535 };
+    b = signedEnd 4096;
+    rj = endOf 0 16384;
+    sl = endOf 0 16384;
+    tnl = pos 0;
+    pair = endPair;
+  }
+
+  abbrev pub endSettings : Settings
+  endSettings = record {
+    ages = ages;
+    w = firstWeight;
+    v = firstWeight;
+    percentThermometers = endOf 1 100;
+    percent = λ side. endOf 1 100;
+    least = λ target. endOf 1 (sizeOf target);
+    rPam = endOf 1000 4000000;
+    tLow = signedEnd 245760;
+    tUpp = signedEnd 245760;
+    dT = endOf 0 491520;
+    thermometer = endThermometer;
+    channel = λ c. endChannel;
+  }
+
+  -- a channel's part of a bias file: c0 and e in two's complement
+  unfoldable pub endPart : List ℕ
+  unfolding cells
+  endPart = cells (λ i. u16Bytes (endOf (65536 - 4096) 4096) ++ u16Bytes (endOf 0x8000 0x7FFF)) positions
+
+pub record RangeRows : Type 0 where
+  pub low-ends : valuesInside (endSettings false) ≡ true
+  pub high-ends : valuesInside (endSettings true) ≡ true
+  pub bias-low-ends : partInside (endPart false) ≡ true
+  pub bias-high-ends : partInside (endPart true) ≡ true
 
 -- ---- one thermometer: the number of its refusal, or 0, at these counts, with all R 2,000,000, the bench's coefficients and offset 0
 abbrev pub refusalAt : (pam count : ℕ) → ℕ
@@ -195,6 +263,7 @@ pub record AgeRows : Type 0 where
   pub age-beyond : (c : ℕ) → c < channels → meansAt evenWeights (fedMoment (benchScan 15000 ∷ []) (numberedScan 15 15000)) c ≡ sumsOfScans 1 (targetOf c)
 
 pub record BoundaryRows : Type 0 where
+  pub ranges : RangeRows
   pub readings : ReadingEnds
   pub thermometers : ThermometerRows
   pub counts : CountRows
