@@ -1,7 +1,7 @@
 // What the programs `listing` and `calibrate` do: both read table.bin, then bias.bin, then records from standard input, feed each record
-// and write what the crate `lines` makes of it. Of what a call of C reads or writes nothing can be stated, so two things are open here, and
-// they are tested by runs: which bytes `read_record` and `read_file` have read, and that `hand_over` and `hand_over_stop` are called and
-// write what they are lent. What they are lent is stated, and so is all that is done with what was read.
+// and write what the crate `lines` makes of it. Stated are what is made of bytes that were read, which calibrator each turn gets, and which
+// bytes go to the one call of `write` and for which stream. Open is what calls of C do, and runs test it: which bytes `read_record` and
+// `read_file` got and how many, that `write_to` is called, that its bytes are written, and that a failed call is answered as one.
 use bias::BIAS_SIZE;
 use calibrator::Calibrator;
 use libc::STDERR_FILENO;
@@ -60,6 +60,7 @@ struct Turned {
 
 // ---- what is made of a record
 
+// The line of a record, and no product.
 fn list(calibrator: Calibrator, scan: &[u8], line: &mut [u8; LONGEST]) -> Made
     requires { ⌜ Sound calibrator ⌝ }
     ensures { λ r. ⌜ Counts (r .line) (now (line .exit)) ⌝ }
@@ -74,6 +75,7 @@ fn list(calibrator: Calibrator, scan: &[u8], line: &mut [u8; LONGEST]) -> Made
     }
 }
 
+// The product of a record, or the line of its refusal: of the two one is empty.
 fn calibrate(
     calibrator: Calibrator,
     scan: &[u8],
@@ -145,7 +147,7 @@ fn output_took(program: Program, line: bool, product: bool) -> bool
     }
 }
 
-// The one call of `write`. Open: that the bytes, which are stated, are written to the stream, which is stated, and that the answer says so.
+// The one call of `write`, with bytes and a stream that are stated. Open: that it writes them there, and answers whether it did.
 fn write_to(program: Program, to: i32, bytes: &[u8]) -> bool
     requires { ⌜ Due program to (now bytes) ⌝ }
 {
