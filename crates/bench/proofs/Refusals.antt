@@ -1,4 +1,4 @@
--- The rows of refusals that are met at once: each test computes, and the laws of the verdicts say which comes first.
+-- The rows that meet several refusals at once: each test computes, and the laws of the verdicts say which comes first.
 use Prim.Native.Nat.{ℕ, _<_, _≤_}
 use native.Mathlib.Omega.{arith}
 use mathlib.Core.Path.{_≡_, refl, ap, _∙_}

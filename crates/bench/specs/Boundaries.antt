@@ -153,7 +153,7 @@ pub record ThermometerRows : Type 0 where
   -- the first of each target is 104 above the others
   pub difference-at : BothTargets (λ target. acceptedThermometers (withDT 104) (instrumentWith 1 20002 20000) target ≡ record { place = 0; value = 1118926 } ∷ drop 1 (samplesAt (sizeOf target) 1118822))
   pub difference-beyond : BothTargets (λ target. acceptedThermometers (withDT 103) (instrumentWith 1 20002 20000) target ≡ drop 1 (samplesAt (sizeOf target) 1118822))
-  -- so many are good, and one fewer
+  -- just the least number are good, and one fewer
   pub least-at : BothTargets (λ target. acceptedThermometers benchSettings (instrumentWith (leastOf target) 20000 0) target ≡ samplesAt (leastOf target) 1118822)
   pub least-beyond : BothTargets (λ target. acceptedThermometers benchSettings (instrumentWith (leastOf target - 1) 20000 0) target ≡ [])
 
@@ -174,7 +174,7 @@ limitsTo low upp side = record { low = low side; upp = upp side; difference = 50
 abbrev pub fromOne : Side → Limits
 fromOne = limitsTo (λ side. 1) (λ side. 65535)
 
--- a channel's part of field 0x03 or 0x04
+-- these counts as a channel's part of field 0x03 or 0x04
 abbrev pub countBytes : List ℕ → List ℕ
 countBytes [] = []
 countBytes (count ∷ more) = u16Bytes count ++ countBytes more
@@ -185,11 +185,11 @@ acceptedOf limits counts side =
     let channel : ChannelSettings = record { limits = limits; b = pos 0; rj = 0; sl = 0; tnl = pos 0; pair = rowsPair } in
     ofSide side (acceptedCounts channel (countBytes (counts Warm)) (countBytes (counts Cold)))
 
--- the first count is another
+-- the first of the four counts is another
 abbrev pub firstIs : (Side → ℕ) → Side → List ℕ
 firstIs first side = four (first side) (countOf side) (countOf side) (countOf side)
 
--- warm from this count on, cold to 10,000
+-- the lowest warm count is this one, and the highest cold 10,000
 abbrev pub warmFrom : ℕ → Side → List ℕ
 warmFrom lowest Warm = four 10040 lowest 10030 10020
 warmFrom lowest Cold = four 9970 9980 10000 9990
@@ -229,12 +229,12 @@ abbrev pub countSums : Target → (Aw Ac : ℕ) → Means
 countSums target Aw Ac = record { sumVP = sizeOf target; sumVPT = 0; Ww = 1; Aw = Aw; Wc = 1; Ac = Ac }
 
 pub record FlagRows : Type 0 where
-  -- 100 × sum is percentage × whole for each of the three; a sum is one less
+  -- 100 × sum is percentage × whole for each of the three; then one of the sums is 1 less
   pub percentages-at : BothTargets (λ target. flagOf (withPercentages 100 100 100) target (sums (3 * sizeOf target) 3 3) ≡ 0)
   pub thermometers-less : BothTargets (λ target. flagOf (withPercentages 100 100 100) target (sums (3 * sizeOf target - 1) 3 3) ≡ 1)
   pub warm-less : BothTargets (λ target. flagOf (withPercentages 100 100 100) target (sums (3 * sizeOf target) 2 3) ≡ 2)
   pub cold-less : BothTargets (λ target. flagOf (withPercentages 100 100 100) target (sums (3 * sizeOf target) 3 2) ≡ 3)
-  -- 100 × sum is one below percentage × whole: 81 × 21 = 1,701 and 67 × 3 = 201. No percentage of KAV's 24 is one above a hundred.
+  -- 100 × sum is one below percentage × whole: 81 × 21 = 1,701 and 67 × 3 = 201. For KAV's 24 no product is one above a multiple of 100.
   pub thermometers-beyond : flagOf (withPercentages 81 1 1) Wg (sums 17 3 3) ≡ 1
   pub warm-beyond : BothTargets (λ target. flagOf (withPercentages 1 67 1) target (sums (3 * sizeOf target) 2 3) ≡ 2)
   pub cold-beyond : BothTargets (λ target. flagOf (withPercentages 1 1 67) target (sums (3 * sizeOf target) 3 2) ≡ 3)

@@ -1,5 +1,5 @@
 -- Document 01, "Operations", and requests W1 and W5: in each operation the tests run in the order named, and the first that applies decides. Each
--- row meets several refusals at once: which of the tests apply, each by itself, and which number comes back.
+-- row says which of the tests apply, each by itself, and which number comes back; most meet several refusals at once.
 use Prim.Native.Nat.{ℕ, _+_, _*_, _<_, _≤_}
 use mathlib.Core.Path.{_≡_}
 use mathlib.Core.List.{List, [], _∷_, _++_}

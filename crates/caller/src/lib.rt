@@ -1,5 +1,6 @@
 // What a station gets from each C function, from plain arguments and with nothing asked of it: every answer, and every byte and number that is
-// written. Nothing of this crate is shipped; it is proved only while the functions of `station` promise all of it to everyone.
+// written. Each contract here is proved only if the function of `station` that is called promises all of it, for all arguments. Nothing of this
+// crate is shipped.
 ghost use mathlib.Core.Path.{_≡_};
 ghost use lib.ListN.{length};
 ghost use Rattle.lists.specs.Tests.{numberOf};

@@ -1,5 +1,5 @@
 -- Request W6 multiplied out, for b above 0: the nearest whole number is within a half, and of two equally near, both at a half, it is the even
--- one; and that r(a, b) is this number, and no other is.
+-- one; r(a, b) is this number, and no other is.
 use mathlib.Core.Path.{_≡_}
 use mathlib.Core.Bool.{true}
 use mathlib.Core.Logic.{_⊎_}

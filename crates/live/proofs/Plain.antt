@@ -1,5 +1,5 @@
--- Scan by scan through states, in plain numbers: what demand 3 asks of such a run follows from its plain facts alone, and it says all of its parts; so
--- does what a call leaves. A further premise, or a claim that is dropped, breaks a law.
+-- Scan by scan through states, in plain numbers: what demand 3 asks of such a run follows from plain facts alone, and what it claims is taken apart
+-- into all of its parts, and so is what a call leaves. A further premise, or a claim that is dropped, breaks a law.
 use Prim.Native.Nat.{ℕ, _<_, _≤_}
 use mathlib.Core.Path.{_≡_, refl}
 use mathlib.Core.List.{List, [], _∷_, _++_}
@@ -69,8 +69,8 @@ pub run-promise-says : {fresh : Calibrator} {s : Settings} {bias first : List �
     × ((behind : List ℕ) (channel wanted : ℕ) → foundIn (stateAfter first calls ++ behind) channel wanted ≡ countBehind (calibratorAfter fresh (feedsOfCalls calls) .last) channel wanted)
 run-promise-says h = (h .each, h .promise, h .counts)
 
--- ---- the whole: an accepted table, an accepted bias file, which has bytes, a memory of 12,576 bytes or more, and two lists of calls, of which
--- the records of the first have bytes, are all that it asks
+-- ---- the whole: an accepted table, an accepted bias file, each byte of it below 256, a memory of 12,576 bytes or more, and two lists of calls,
+-- the records of the first being of bytes, are all that it asks
 
 pub by-states-says : DemandThreeByStates → (table : Table) → opening (table .bytes) ≡ passes → (bias : Bias) → biasOpening (bias .bytes) ≡ passes
     → ((k : ℕ) → getD (bias .bytes) k 0 < 256) → (memory : List ℕ) → 12576 ≤ length memory

@@ -1,5 +1,5 @@
 -- The run of a program: which calibrator it begins with, by the verdicts on the two files, and that the calibrator after each turn is the one
--- after the records read so far. Which bytes a call of C read no contract can say: the records are some that were read.
+-- after the records read so far. No contract can say which bytes a call of C has read: it is said that there are such records.
 use Prim.Native.Nat.{ℕ, _<_, _≤_}
 use mathlib.Core.Path.{_≡_}
 use mathlib.Core.Bool.{Bool}

@@ -74,7 +74,7 @@ pub record Refuses (answer : Opening) : Type 0 where
 
 -- a line and a product that belong together
 pub data Together (program : Program) (line product : List ℕ) : Type 0 where
-  -- of a record that has bytes, under a calibrator of a run
+  -- of a record that has bytes, under a calibrator that keeps to its ranges
   of-record : (c : Calibrator) (scan : List ℕ) → Sound c → 0 < length scan → line ≡ lineOf program c scan → product ≡ writtenProduct program c scan
       → Together program line product
   -- of a refused table or bias file, which has no product

@@ -1,7 +1,8 @@
 // What the programs `listing` and `calibrate` do: both read table.bin, then bias.bin, then records from standard input, feed each record
 // and write what the crate `lines` makes of it. Stated are what is made of bytes that were read, which calibrator each turn gets, and which
-// bytes go to the one call of `write` and for which stream. Open is what calls of C do, and runs test it: which bytes `read_record` and
-// `read_file` got and how many, that `write_to` is called, that its bytes are written, and that a failed call is answered as one.
+// bytes may go to the one call of `write` and for which stream. Open is what calls of C do, and runs test it: which bytes `read_record` and
+// `read_file` got and how many, that `write_to` is called once for each record and in order, that its bytes are written, and that a failed
+// call is answered as one.
 use bias::BIAS_SIZE;
 use calibrator::Calibrator;
 use libc::STDERR_FILENO;
@@ -154,7 +155,7 @@ fn write_to(program: Program, to: i32, bytes: &[u8]) -> bool
     io::write_all(to, bytes)
 }
 
-// Writes a line, then a product, and answers whether standard output took all. For an empty one no call is made.
+// Writes a line, then a product, and answers whether standard output took all. For an empty one `write_all` makes no call.
 fn hand_over(program: Program, line: &[u8], product: &[u8]) -> bool
     requires { ⌜ Together program (now line) (now product) ⌝ }
 {

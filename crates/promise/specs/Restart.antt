@@ -26,7 +26,7 @@ unfoldable pub recent : ℕ → Roll → Roll
 recent number [] = []
 recent number (scan ∷ roll) = cond (ltb number (scanNumber scan + ages)) (scan ∷ recent number roll) (recent number roll)
 
--- these records, the oldest first, each with a buffer of its own
+-- these records, the oldest first, each with this buffer
 unfoldable pub feedsOf : List ℕ → Roll → List Feed
 feedsOf buffer [] = []
 feedsOf buffer (scan ∷ roll) = feedsOf buffer roll ++ (record { scan = scan; buffer = buffer } ∷ [])
@@ -40,6 +40,6 @@ pub record Restart (fresh : Calibrator) : Type 0 where
   pub same : (before : List Feed) (feed : Feed) (buffer : List ℕ) → productSize ≤ length buffer → verdictAt (rolledBy [] before) feed ≡ passes
       → outcomeAfter fresh before feed ≡ outcomeAfter fresh (windowFeeds before feed buffer) feed
 
--- of every table and every bias file, accepted or not
+-- under every table and every bias file, accepted or not
 abbrev pub Restarts : Type 0
 Restarts = (table : Table) (bias : Bias) → Restart (freshOf table bias)

@@ -1,4 +1,4 @@
--- Bytes that have another magic number or another version in their front are no state, whatever else they hold; numbers are written out.
+-- Bytes with another magic number or another version at their front are no state, whatever else they hold; numbers are written out.
 use Prim.Native.Nat.{ℕ, _+_, _-_, _≤_}
 use native.Mathlib.Omega.{arith}
 use mathlib.Core.Path.{_≡_, sym, ap, _∙_}

@@ -1,4 +1,4 @@
--- The theorem, each field from the crate that proves it.
+-- The proof of the theorem: for each field the law that proves it.
 use Rattle.integers.proofs.Nearest as rounding
 use Rattle.thermometer.proofs.Bracketing as bracketing
 use Rattle.thermometer.proofs.EquationNear as near

@@ -1,4 +1,4 @@
--- All that is promised beside the contracts of functions, as one statement: a field for each promise of README.md's table.
+-- All that is promised beside the contracts of functions, as one statement. README.md's table says each field in plain words.
 use Rattle.integers.specs.NearestEven.{RIsNearestEven}
 use Rattle.thermometer.specs.Equations.{AnswersBracketed, FNearEquation}
 use Rattle.promise.specs.Promise.{DemandThree}
@@ -16,7 +16,7 @@ pub record Theorem : Type 0 where
   pub every-list : DemandThree
   pub in-one-call : DemandThreeInOneCall
   pub by-states : DemandThreeByStates
-  -- a product depends on the records of its window alone
+  -- the restart law: a product depends on the records of its window alone
   pub restarts : Restarts
   -- request W1
   pub zeros-are-no-bias : WithoutBias

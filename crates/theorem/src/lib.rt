@@ -1,1 +1,1 @@
-// All that is promised, as one theorem; no code.
+// All that is promised beside the contracts of functions, as one theorem; no code.
