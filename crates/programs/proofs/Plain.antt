@@ -10,12 +10,14 @@ use Rattle.lists.specs.All.{All}
 use Rattle.lists.specs.Tests.{Verdict, passes, fails}
 use Rattle.lists.proofs.All.{all-none, all-one, all-appended, all-weaker}
 use Rattle.table.specs.declared.Table.{Table}
+use Rattle.table.specs.declared.Opening.{Opening}
+use Rattle.table.specs.declared.Opening.the-variants.{Accepted, LengthWrong, FieldWrong, ValueOutside}
 use Rattle.table.specs.Opening.{opening, verdictOf}
 use Rattle.bias.specs.Opening.{biasOpening}
 use Rattle.record.specs.Record.{recordSize}
 use Rattle.calibrator.specs.declared.Calibrator.{Calibrator}
 use Rattle.calibrator.specs.Refusals.{Reply, delivered, refused}
-use Rattle.calibrator.specs.Feeding.{Feed, freshOf, step, calibratorAfter}
+use Rattle.calibrator.specs.Feeding.{Feed, freshOf, step, calibratorAfter, Sound}
 use Rattle.lines.specs.declared.Stop.{Stop}
 use Rattle.lines.specs.declared.Stop.the-variants.{OutputUnwritten}
 use Rattle.lines.specs.Lines.{refusedLine, scanLine, numberIn, flagsIn, replyLine, openingLine, stopLine}
@@ -51,6 +53,21 @@ unfolding openingLine
 opening-line-has-bytes verdict {number} refuses = rw refuses (refused-line-has-bytes number)
 
 -- ---- what is written of a record or of a refused file
+
+refusal-numbers : (answer : Opening) {number : ℕ} → verdictOf answer ≡ fails number → (1 ≤ number) × (number ≤ 3)
+refusal-numbers Accepted refuses = absurd (let z : _≡_ {A = ℕ} 0 1 = cc in omega arith)
+refusal-numbers LengthWrong {number} refuses = let is : 1 ≡ number = cc in (omega arith, omega arith)
+refusal-numbers FieldWrong {number} refuses = let is : 2 ≡ number = cc in (omega arith, omega arith)
+refusal-numbers ValueOutside {number} refuses = let is : 3 ≡ number = cc in (omega arith, omega arith)
+
+pub together-says : {program : Program} {line product : List ℕ} → Together program line product
+    → ((c : Calibrator) × (scan : List ℕ) × Sound c × (0 < length scan) × (line ≡ lineOf program c scan) × (product ≡ writtenProduct program c scan))
+    ⊎ ((number : ℕ) × (1 ≤ number) × (number ≤ 3) × (line ≡ refusedLine number) × (product ≡ []))
+unfolding openingLine
+together-says (of-record c scan sound some line-is product-is) = inl (c, scan, sound, some, line-is, product-is)
+together-says (of-refusal answer refuses line-is product-is) =
+    let bounds = refusal-numbers answer (refuses .fails-with) in
+    inr (refuses .number, bounds .0, bounds .1, line-is ∙ ap openingLine (refuses .fails-with), product-is)
 
 -- `listing`: a line, and no product
 pub listing-writes-a-line : {line product : List ℕ} → Together Listing line product → (0 < length line) × (product ≡ [])
