@@ -19,7 +19,7 @@ use Rattle.calibrator.specs.declared.Calibrator.{Calibrator}
 use Rattle.calibrator.specs.Refusals.{Reply, delivered, refused}
 use Rattle.calibrator.specs.Feeding.{Feed, freshOf, step, calibratorAfter, Sound}
 use Rattle.lines.specs.declared.Stop.{Stop}
-use Rattle.lines.specs.declared.Stop.the-variants.{OutputUnwritten}
+use Rattle.lines.specs.declared.Stop.the-variants.{InputUnread, OutputUnwritten}
 use Rattle.lines.specs.Lines.{refusedLine, scanLine, numberIn, flagsIn, replyLine, openingLine, stopLine}
 use Rattle.lines.specs.Steps.{emptyProduct, recordFed, listedLine, outputSize, errorLine, calibratedLine}
 use Rattle.programs.specs.declared.Program.{Program}
@@ -119,10 +119,16 @@ pub record RanOver (first : Calibrator) (feeds : List Feed) (t : Turned) : Type 
 whole-is-fed : (feed : Feed) → WholeFeed feed → FedRecord feed
 whole-is-fed feed whole = record { some = omega (arith, whole .whole); most = omega (arith, whole .whole); buffer-is = whole .buffer-is }
 
+-- how many bytes were read: a whole record, or a shorter rest
+pub read-says : (next : Next) {size : ℕ} → ReadTo size next
+    → ((next ≡ More) × (size ≡ 4648)) ⊎ ((next ≡ Ended) × (size < 4648)) ⊎ ((next ≡ Stopped InputUnread) × (size < 4648))
+read-says More read = inl (refl, read)
+read-says Ended read = inr (inl (refl, read))
+read-says (Stopped stop) read = inr (inr (ap Stopped (read .1), read .0))
+
 read-at-most : (next : Next) {size : ℕ} → ReadTo size next → size ≤ 4648
-read-at-most More read = omega (arith, read)
-read-at-most Ended read = omega (arith, read)
-read-at-most (Stopped stop) read = omega (arith, read .0)
+read-at-most next {size} read =
+    ⊎-elim (λ whole. omega (arith, whole .1)) (⊎-elim (λ rest. omega (arith, rest .1)) (λ rest. omega (arith, rest .1))) (read-says next read)
 
 -- what the last turn feeds: nothing, or one record
 last-fed : (c : Calibrator) (scan : List ℕ) (next : Next) (complete : Bool) → length scan ≤ 4648
