@@ -14,10 +14,9 @@ use Rattle.table.specs.declared.Opening.{Opening}
 use Rattle.table.specs.declared.Opening.the-variants.{Accepted, LengthWrong, FieldWrong, ValueOutside}
 use Rattle.table.specs.Opening.{opening, verdictOf}
 use Rattle.bias.specs.Opening.{biasOpening}
-use Rattle.record.specs.Record.{recordSize}
 use Rattle.calibrator.specs.declared.Calibrator.{Calibrator}
 use Rattle.calibrator.specs.Refusals.{Reply, delivered, refused}
-use Rattle.calibrator.specs.Feeding.{Feed, freshOf, step, calibratorAfter, Sound}
+use Rattle.calibrator.specs.Feeding.{Feed, freshOf, calibratorAfter, Sound}
 use Rattle.lines.specs.declared.Stop.{Stop}
 use Rattle.lines.specs.declared.Stop.the-variants.{InputUnread, OutputUnwritten}
 use Rattle.lines.specs.Lines.{refusedLine, scanLine, numberIn, flagsIn, replyLine, openingLine, stopLine}
@@ -28,7 +27,7 @@ use Rattle.programs.specs.declared.Next.{Next}
 use Rattle.programs.specs.declared.Next.the-variants.{More, Ended, Stopped}
 use Rattle.programs.specs.declared.Turned.{Turned}
 use Rattle.programs.specs.Streams.{standardOutput, standardError}
-use Rattle.programs.specs.Steps.{lineOf, productBy, writtenProduct, turnedOf, Together, of-record, of-refusal, Due, line-due, product-due, stop-due}
+use Rattle.programs.specs.Steps.{lineOf, writtenProduct, turnedOf, Together, of-record, of-refusal, Due, line-due, product-due, stop-due}
 use Rattle.programs.specs.Runs.{ReadTo, WholeFeed, Ran, Unfed, UnderBias, UnderTable}
 use Rattle.programs.proofs.StepLaws.{written-size}
 use Rattle.programs.proofs.RunLaws.{after-appended}

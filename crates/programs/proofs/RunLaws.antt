@@ -7,7 +7,6 @@ use mathlib.Core.Logic.{inl, inr}
 use mathlib.Core.List.{List, [], _∷_, _++_}
 use lib.ListN.{length, take, length-append}
 use lib.Seq.{length-take-le}
-use Rattle.lists.specs.All.{All}
 use Rattle.lists.proofs.All.{all-none, all-one, all-appended}
 use Rattle.record.specs.Record.{recordSize}
 use Rattle.calibrator.specs.declared.Calibrator.{Calibrator}
@@ -17,8 +16,8 @@ use Rattle.lines.specs.Steps.{emptyProduct, recordFed}
 use Rattle.programs.specs.declared.Next.{Next}
 use Rattle.programs.specs.declared.Next.the-variants.{More, Ended, Stopped}
 use Rattle.programs.specs.declared.Turned.{Turned}
-use Rattle.programs.specs.Steps.{nextAfter, turnedOf}
-use Rattle.programs.specs.Runs.{ReadTo, TurnOf, TurnIn, WholeFeed, mostTurns, Reached, Ran}
+use Rattle.programs.specs.Steps.{turnedOf}
+use Rattle.programs.specs.Runs.{ReadTo, TurnIn, WholeFeed, mostTurns, Reached, Ran}
 
 -- ---- what comes after a turn is one of the three
 

@@ -1,5 +1,5 @@
 -- What is written of a record stands at the front of the lent buffers, whatever they held; a turn with no bytes, and with some.
-use Prim.Native.Nat.{ℕ, _<_, _≤_}
+use Prim.Native.Nat.{ℕ, _<_}
 use native.Mathlib.Nat.{le-refl}
 use native.Mathlib.Omega.{arith}
 use mathlib.Core.Path.{_≡_, refl, sym, ap, _∙_}
@@ -8,7 +8,7 @@ use mathlib.Core.Logic.{⊎-elim}
 use mathlib.Core.List.{List, [], _∷_, _++_, append-nil}
 use types.Run.{OneOf}
 use denote.Enum.Declared.{tagOf}
-use lib.ListN.{length, take, drop, length-append, length-replicate, drop-of-length-le}
+use lib.ListN.{length, take, drop, length-replicate, drop-of-length-le}
 use lib.Seq.{take-all}
 use Rattle.lists.specs.Build.{put}
 use Rattle.lists.specs.Tests.{Verdict, passes, fails}

@@ -14,8 +14,7 @@ use Rattle.bias.specs.Opening.{biasOpening}
 use Rattle.record.specs.Record.{recordSize}
 use Rattle.calibrator.specs.declared.Calibrator.{Calibrator}
 use Rattle.calibrator.specs.Feeding.{Feed, freshOf, calibratorAfter}
-use Rattle.lines.specs.declared.Stop.{Stop}
-use Rattle.lines.specs.declared.Stop.the-variants.{InputUnread, OutputUnwritten}
+use Rattle.lines.specs.declared.Stop.the-variants.{InputUnread}
 use Rattle.lines.specs.Steps.{emptyProduct}
 use Rattle.programs.specs.declared.Next.{Next}
 use Rattle.programs.specs.declared.Next.the-variants.{More, Ended, Stopped}

@@ -1,5 +1,5 @@
 -- `programs::list` meets its contract, which is what `lines::list_record` says of the calibrator and the line.
-use mathlib.Core.Path.{ap, _∙_}
+use mathlib.Core.Path.{ap}
 use Rattle.lines.specs.declared.Listed.{Listed}
 use Rattle.lines.specs.Steps.{listedOf}
 use Rattle.programs.specs.Steps.{lineOf, writtenProduct, madeOf}
