@@ -10,13 +10,13 @@ ghost use Rattle.bias.specs.Opening.{biasOpening, bothOpening};
 ghost use Rattle.live.specs.Calls.{freshVerdict, freshBy, fedState, foundIn, foundNumber, countOr};
 ghost use Rattle.station.specs.Calls.{unitsOr, answersBy, buffersBy};
 
-pub fn is_table_accepted(table: &[u8]) -> u8
+pub fn opening_of_a_table(table: &[u8]) -> u8
     ensures { λ n. ⌜ n ≡ numberOf (opening (now (table .entry))) ⌝ }
 {
     station::sounder_open(table)
 }
 
-pub fn is_bias_file_accepted(bias: &[u8]) -> u8
+pub fn opening_of_a_bias_file(bias: &[u8]) -> u8
     ensures { λ n. ⌜ n ≡ numberOf (biasOpening (now (bias .entry))) ⌝ }
 {
     station::sounder_open_bias(bias)

@@ -13,23 +13,23 @@ use Rattle.live.specs.Runs.{DemandThreeByStates}
 
 pub record Theorem : Type 0 where
   -- document 01, demand 3: of every list of feeds; of one that is fed in one call; of one that is fed through states
-  pub every-list : DemandThree
-  pub in-one-call : DemandThreeInOneCall
-  pub by-states : DemandThreeByStates
+  pub demand-three : DemandThree
+  pub demand-three-in-one-call : DemandThreeInOneCall
+  pub demand-three-by-states : DemandThreeByStates
   -- the restart law: a product depends on the records of its window alone
   pub restarts : Restarts
   -- request W1
-  pub zeros-are-no-bias : WithoutBias
+  pub without-bias : WithoutBias
   -- request W3
-  pub six-numbers : SameScenes
+  pub same-scenes : SameScenes
   pub scenes-shown : ScenesShown
   -- request W4
-  pub near-before-bias : DistanceBeforeBias
+  pub distance-before-bias : DistanceBeforeBias
   -- request W5
   pub counts-behind : CountsBehind
   pub answers-say : AnswersSay
-  pub higher-count-higher-T : HigherCountHigherT
-  pub counts-after-restart : SameAfterRestart
+  pub higher-count-higher-t : HigherCountHigherT
+  pub same-after-restart : SameAfterRestart
   -- request W6
   pub r-is-nearest-even : RIsNearestEven
   -- request W7
