@@ -80,6 +80,10 @@ rows = record {
   H12 = A.h12-both-bad;
 }
 
+-- H6 and H8 are rows of every scene
+pub outside-rows-say : (c i : ℕ) → c < 22 → i < 96 → (outside (benchN 9999 c i) (benchD 9999 c i) ≡ true) × (outside (benchN 22501 c i) (benchD 22501 c i) ≡ true)
+outside-rows-say c i below inside = (rows .H6 c i below inside, rows .H8 c i below inside)
+
 pub rounding-rows : RoundingRows
 unfolding r floor
 rounding-rows = record {

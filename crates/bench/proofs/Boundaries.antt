@@ -133,9 +133,9 @@ module _ (s : Settings) (value : List ℕ) (target : Target) where
       by-test false = is-two
 
 -- one is 104 above the others
-one-higher : (s : Settings) (target : Target) → Reads s (instrumentWith 1 20002 20000) target (λ i. cond (ltb i 1) 20002 20000)
-    → AcceptedBy s (instrumentWith 1 20002 20000) target (λ i. cond (ltb i 1) (units (pos 104)) (units (pos 0)))
-one-higher s target = first-and-others s (instrumentWith 1 20002 20000) target 1 20002 20000 (units (pos 104)) (units (pos 0)) higher-reading bench-reading
+some-higher : (s : Settings) (n : ℕ) (target : Target) → Reads s (instrumentWith n 20002 20000) target (λ i. cond (ltb i n) 20002 20000)
+    → AcceptedBy s (instrumentWith n 20002 20000) target (λ i. cond (ltb i n) (units (pos 104)) (units (pos 0)))
+some-higher s n target = first-and-others s (instrumentWith n 20002 20000) target n 20002 20000 (units (pos 104)) (units (pos 0)) higher-reading bench-reading
 
 -- n are read
 some-read : (n : ℕ) (target : Target) → Reads benchSettings (instrumentWith n 20000 0) target (λ i. cond (ltb i n) 20000 0)
@@ -149,8 +149,9 @@ thermometer-rows = record {
   low-beyond = (all-at-zero (withTLow 1) instrumentBytes Kav refl, all-at-zero (withTLow 1) instrumentBytes Wg refl);
   upp-at = (all-at-zero (withTUpp 0) instrumentBytes Kav refl, all-at-zero (withTUpp 0) instrumentBytes Wg refl);
   upp-beyond = (all-at-zero (withTUpp 0xFFFF_FFFF) instrumentBytes Kav refl, all-at-zero (withTUpp 0xFFFF_FFFF) instrumentBytes Wg refl);
-  difference-at = (one-higher (withDT 104) Kav refl, one-higher (withDT 104) Wg refl);
-  difference-beyond = (one-higher (withDT 103) Kav refl, one-higher (withDT 103) Wg refl);
+  difference-at = (some-higher (withDT 104) 1 Kav refl, some-higher (withDT 104) 1 Wg refl);
+  difference-beyond = (some-higher (withDT 103) 1 Kav refl, some-higher (withDT 103) 1 Wg refl);
+  two-beyond = (some-higher (withDT 103) 2 Kav refl, some-higher (withDT 103) 2 Wg refl);
   least-at = (some-read 5 Kav refl, some-read 4 Wg refl);
   least-beyond = (some-read 4 Kav refl, some-read 3 Wg refl);
 }
@@ -191,6 +192,13 @@ age-rows = record {
 
 pub boundary-rows : BoundaryRows
 boundary-rows = record { ranges = range-rows; readings = reading-ends; thermometers = thermometer-rows; counts = count-rows; flags = flag-rows; ages = age-rows }
+
+-- ---- the rows of ages are those of every channel
+
+pub ages-say : (c : ℕ) → c < 22
+    → (meansAt evenWeights (fedMoment (benchScan 15000 ∷ []) (numberedScan 14 15000)) c ≡ sumsOfScans 2 (targetOf c))
+    × (meansAt evenWeights (fedMoment (benchScan 15000 ∷ []) (numberedScan 15 15000)) c ≡ sumsOfScans 1 (targetOf c))
+ages-say c below = (boundary-rows .ages .age-at c below, boundary-rows .ages .age-beyond c below)
 
 -- ---- a row of both sides, or of both targets, is a row of each
 

@@ -8,11 +8,12 @@ use borrow.Author.Tests.{lt-ltb}
 use Rattle.lists.specs.Count.{every}
 use Rattle.lists.specs.Tests.{Verdict, passes, fails}
 use Rattle.fields.specs.Fields.{fieldIsRight, layoutIsRight}
-use Rattle.thermometer.specs.Reading.{reading}
+use Rattle.thermometer.specs.Reading.{notRead, reading}
 use Rattle.table.specs.Ranges.{leastsInside, valuesInside}
 use Rattle.table.specs.Opening.{opening}
-use Rattle.bias.specs.Opening.{partInside, biasInside, biasOpening}
+use Rattle.bias.specs.Opening.{partInside, biasInside, biasOpening, bothOpening}
 use Rattle.lastscan.specs.LastScan.{nothingKept}
+use Rattle.lookup.specs.Lookup.{refusedWith}
 use Rattle.product.specs.Product.{productSize}
 use Rattle.window.specs.Ages.{windowAfter}
 use Rattle.calibrator.specs.declared.Calibrator.{Calibrator}
@@ -20,6 +21,7 @@ use Rattle.calibrator.specs.Refusals.{verdict, Reply, refused}
 use Rattle.calibrator.specs.Feeding.{Feed, freshOf, stepBy, verdictIn, calibratorAfter, outcomeAfter}
 use Rattle.promise.specs.Roll.{Roll, verdictAt, joinedBy}
 use Rattle.promise.specs.Restart.{rolledBy}
+use Rattle.promise.specs.CountBehind.{answerOf}
 use Rattle.bench.specs.Bench.{benchScan, benchCalibrator}
 use Rattle.bench.specs.Witnesses.{numberedScan, zeros}
 use Rattle.bench.specs.Refusals.{feedTests, thatApply, FeedRefused, FeedRows, tableOutside, biasOutside, OpeningRows, ReadingRows, LookupRows, RefusalRows}
@@ -124,3 +126,29 @@ pub short-replies-say : let reply : List ℕ → Reply = λ scan. outcomeAfter b
     (reply [] ≡ refused 4) × (reply (benchScan 15000 ++ (0 ∷ [])) ≡ refused 4) × (reply zeros ≡ refused 5) × (reply (benchScan 15000) ≡ refused 6) × (reply (numberedScan 8 15000) ≡ refused 7)
 short-replies-say =
     let rows = rows-of-short-feeds in (rows .four-of-all .1, rows .four-with-right-tags .1, rows .five-before-six .1, rows .six-before-seven .1, rows .seven-alone .1)
+
+-- ---- the other rows taken apart
+
+pub openings-say : (opening [] ≡ fails 1) × (opening (replicate 1404 0) ≡ fails 2) × (opening tableOutside ≡ fails 3)
+    × (biasOpening (0x7F ∷ replicate 8451 0x7F) ≡ fails 1) × (biasOpening (replicate 8451 0x7F) ≡ fails 2)
+    × (biasOpening (0x13 ∷ 0x21 ∷ 0x00 ∷ replicate 8448 0x7F) ≡ fails 3) × (bothOpening tableOutside [] ≡ fails 3)
+unfolding biasOutside
+openings-say =
+    let rows = refusal-rows .openings in (
+      rows .table-one-of-all .1,
+      rows .table-two-before-three .1,
+      rows .table-three-alone .1,
+      rows .bias-one-of-all .1,
+      rows .bias-two-before-three .1,
+      rows .bias-three-alone .1,
+      rows .table-before-bias .0,
+    )
+
+pub readings-say : (reading 999 2000000 3850000 1500000 0 100 100 99 ≡ notRead 8) × (reading 1000 2000000 3850000 1500000 0 100 100 99 ≡ notRead 9)
+    × (reading 1000 2000000 3850000 1500000 0 101 100 99 ≡ notRead 10)
+readings-say = let rows = refusal-rows .readings in (rows .eight-of-all .1, rows .nine-before-ten .1, rows .ten-alone .1)
+
+pub lookups-say : (wanted : ℕ) → (answerOf benchCalibrator 0 wanted ≡ refusedWith 11) × (answerOf benchCalibrator 23 wanted ≡ refusedWith 11)
+    × (answerOf benchCalibrator 1 wanted ≡ refusedWith 12) × (answerOf benchCalibrator 22 wanted ≡ refusedWith 12)
+lookups-say wanted =
+    let rows = refusal-rows .lookups in (rows .eleven-below .1 wanted, rows .eleven-above .1 wanted, rows .twelve-at-first .1 wanted, rows .twelve-at-last .1 wanted)

@@ -153,6 +153,8 @@ pub record ThermometerRows : Type 0 where
   -- the first of each target is 104 above the others
   pub difference-at : BothTargets (λ target. acceptedThermometers (withDT 104) (instrumentWith 1 20002 20000) target ≡ record { place = 0; value = 1118926 } ∷ drop 1 (samplesAt (sizeOf target) 1118822))
   pub difference-beyond : BothTargets (λ target. acceptedThermometers (withDT 103) (instrumentWith 1 20002 20000) target ≡ drop 1 (samplesAt (sizeOf target) 1118822))
+  -- two are 104 above the others, so that each differs from two or more and none is good; with the two dropped first, the others would be
+  pub two-beyond : BothTargets (λ target. acceptedThermometers (withDT 103) (instrumentWith 2 20002 20000) target ≡ [])
   -- just the least number are good, and one fewer
   pub least-at : BothTargets (λ target. acceptedThermometers benchSettings (instrumentWith (leastOf target) 20000 0) target ≡ samplesAt (leastOf target) 1118822)
   pub least-beyond : BothTargets (λ target. acceptedThermometers benchSettings (instrumentWith (leastOf target - 1) 20000 0) target ≡ [])

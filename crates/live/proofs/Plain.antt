@@ -11,7 +11,7 @@ use Rattle.table.specs.Settings.{Settings, settingsOf}
 use Rattle.table.specs.Opening.{opening}
 use Rattle.bias.specs.declared.Bias.{Bias}
 use Rattle.bias.specs.Opening.{biasOpening}
-use Rattle.lookup.specs.Lookup.{countBehind}
+use Rattle.lookup.specs.Lookup.{foundCount, noCount, refusedWith, countBehind}
 use Rattle.calibrator.specs.declared.Calibrator.{Calibrator}
 use Rattle.calibrator.specs.Refusals.{replyNumber}
 use Rattle.calibrator.specs.Feeding.{freshOf, step, calibratorAfter, AllOfBytes}
@@ -19,7 +19,7 @@ use Rattle.calibrator.proofs.Plain.{no-feed-of-bytes, feeds-of-bytes}
 use Rattle.promise.specs.Promise.{Promise}
 use Rattle.promise.proofs.Plain.{accepted-by, accepted-bias-by}
 use Rattle.state.specs.State.{calibratorIn, isState}
-use Rattle.live.specs.Calls.{Left, CallLeaves, freshVerdict, freshBy, fedState, foundIn}
+use Rattle.live.specs.Calls.{noState, Left, CallLeaves, freshVerdict, freshBy, fedState, foundIn, foundNumber}
 use Rattle.live.specs.Runs.{Call, feedsOfCalls, stateAfter, firstState, CallClaim, RunPromise, DemandThreeByStates}
 
 -- ---- what a call leaves: its answer, the state and the buffer
@@ -27,6 +27,11 @@ use Rattle.live.specs.Runs.{Call, feedsOfCalls, stateAfter, firstState, 
 pub call-leaves-says : {left : Left} {answer : ℕ} {state buffer : List ℕ} → CallLeaves left answer state buffer
     → (answer ≡ left .answer) × (state ≡ left .state) × (buffer ≡ left .buffer)
 call-leaves-says h = (h .answer-is, h .state-is, h .buffer-is)
+
+-- ---- the numbers of answers that are no refusal of document 01
+
+pub numbers-of-answers : (noState ≡ 254) × (foundNumber noCount ≡ 253) × ((n : ℕ) → foundNumber (foundCount n) ≡ 0) × ((n : ℕ) → foundNumber (refusedWith n) ≡ n)
+numbers-of-answers = (refl, refl, λ n. refl, λ n. refl)
 
 -- ---- what is asked: every byte of every record that was fed is below 256
 

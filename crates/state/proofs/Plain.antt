@@ -1,12 +1,13 @@
--- Bytes with another magic number or another version at their front are no state, whatever else they hold; numbers are written out.
-use Prim.Native.Nat.{ℕ, _+_, _-_, _≤_}
+-- Bytes with another magic number, another version, or neither 0 nor 1 for whether a scan was accepted are no state, whatever else they hold;
+-- numbers are written out.
+use Prim.Native.Nat.{ℕ, _+_, _-_, _≤_, _<_}
 use native.Mathlib.Omega.{arith}
 use mathlib.Core.Path.{_≡_, sym, ap, _∙_}
 use mathlib.Core.List.{List}
 use mathlib.Core.Bool.{false}
 use lib.Dec.{eqb}
 use lib.ListN.{length, getD}
-use borrow.Author.Tests.{ne-eqb}
+use borrow.Author.Tests.{ne-eqb, lt-leb}
 use Rattle.lists.specs.Build.{put}
 use Rattle.lists.proofs.Put.{getD-in-put}
 use Rattle.fields.specs.Numbers.{u32At, u32Bytes}
@@ -28,6 +29,13 @@ module _ (bytes : List ℕ) where
   other-version-is-no-state other =
       wrong-front-is-no-state bytes
       (and-fails (layoutIsRight bytes 0 stateLayout) (and-fails (eqb (u32At bytes 3) 0x534E4452) (rw (ne-eqb (u32At bytes 7) 6 other))))
+
+  -- whether a scan was accepted, at place 1,421, is 0 or 1
+  pub other-byte-is-no-state : 1 < getD bytes 1421 0 → isState bytes ≡ false
+  unfolding frontIsRight
+  other-byte-is-no-state above =
+      wrong-front-is-no-state bytes
+      (and-fails (layoutIsRight bytes 0 stateLayout) (and-fails (eqb (u32At bytes 3) 0x534E4452) (and-fails (eqb (u32At bytes 7) 6) (rw (lt-leb (getD bytes 1421 0) 1 above)))))
 
 -- a number that is written in four bytes is read there
 written-is-read : (bytes : List ℕ) (at n : ℕ) → at ≤ length bytes → u32At (put bytes at (u32Bytes n)) at ≡ n
