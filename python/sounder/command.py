@@ -1,0 +1,253 @@
+"""The command `sounder`."""
+import argparse
+import os
+import re
+import signal
+import sys
+import time
+
+from . import archive, pages
+from .failure import Failure, shown
+from .files import ENDING, Results, Stream, contents, drop_unfinished, same_file, write_all
+from .library import BIAS_BYTES, TABLE_BYTES, Library, Missing, Refusal, version_words
+
+DESCRIPTION = 'Calibrates microwave sounder scans by the proved library.'
+STATUS = 'The exit status is 0 only where everything asked for is on disk or was written; 1 where something is refused or fails; 2 for wrong usage.'
+
+
+class Ended(BaseException):
+    """A signal ends the run."""
+
+    def __init__(self, number):
+        self.number = number
+
+
+def say(words):
+    """A line on standard error. What cannot be shown there ends nothing."""
+    try:
+        write_all(2, (words + '\n').encode('utf-8', 'backslashreplace'))
+    except OSError:
+        pass
+
+
+def print_out(text):
+    """Text on standard output, which was asked for."""
+    try:
+        write_all(1, text.encode('utf-8', 'backslashreplace'))
+    except OSError as failure:
+        raise Failure(f'standard output: {failure.strerror}') from None
+
+
+class Parser(argparse.ArgumentParser):
+    """Help that cannot be written is a failure, and messages go where those of a run go."""
+
+    def _print_message(self, message, file=None):
+        if file is sys.stdout:
+            print_out(message)
+        else:
+            say(message.rstrip('\n'))
+
+
+class Progress:
+    """How far a run is, on a terminal alone, in one line that is written anew."""
+
+    def __init__(self, total):
+        self.total, self.said, self.width = total, time.monotonic(), 0
+        self.shows = os.isatty(2)
+
+    def show(self, records):
+        if self.shows and time.monotonic() - self.said >= 0.2:
+            self.said = time.monotonic()
+            self.line(f'{records} of {self.total} records' if self.total else f'{records} records')
+
+    def line(self, words):
+        try:
+            os.write(2, f'\r{words:{self.width}}'.encode())
+            self.width = len(words)
+        except OSError:
+            self.shows = False
+
+    def end(self):
+        """Leaves an empty line."""
+        if self.width:
+            self.line('')
+            self.line('')
+
+
+def part(text):
+    match = re.fullmatch('([0-9]{1,9})/([0-9]{1,9})', text)
+    number, of = (int(word) for word in match.groups()) if match else (0, 0)
+    if not 1 <= number <= of:
+        raise argparse.ArgumentTypeError(f'{text!r} is not K/N with K from 1 to N')
+    return number, of
+
+
+def jobs(text):
+    if not re.fullmatch('[0-9]{1,4}', text) or not 1 <= int(text) <= 1024:
+        raise argparse.ArgumentTypeError(f'{text!r} is not a number from 1 to 1024')
+    return int(text)
+
+
+def parser():
+    main = Parser(prog='sounder', description=DESCRIPTION, epilog=STATUS, allow_abbrev=False)
+    main.add_argument('--version', action='store_true', help='print the version of the library')
+    commands = main.add_subparsers(dest='command', metavar='COMMAND', title='commands')
+
+    calibrate = commands.add_parser('calibrate', help='calibrate an archive of scan records', epilog=STATUS, allow_abbrev=False, description=(
+        'Calibrates archives of scan records: their records, in order, are one list. The products of the accepted ones go to OUT, and what '
+        'they were made of and which records were refused to OUT.json. Both get their names when they are whole and on the disk. Products '
+        'that are there already, whole and made of the same, are not made again.'))
+    calibrate.add_argument('--table', required=True, metavar='TABLE', help='the table')
+    calibrate.add_argument('--bias', required=True, metavar='BIAS', help='the bias file')
+    calibrate.add_argument('--jobs', type=jobs, metavar='N', help='how many pieces are calibrated at a time (all processors)')
+    calibrate.add_argument('--part', type=part, default=(1, 1), metavar='K/N', help='only part K of N; `sounder join` joins the parts')
+    calibrate.add_argument('archives', nargs='*', default=['-'], metavar='ARCHIVE', help='files of records (standard input, also as -)')
+    calibrate.add_argument('-o', dest='out', default='-', metavar='OUT', help='the file of products (standard output, without a page, also as -)')
+    calibrate.set_defaults(run=run_calibrate)
+
+    join = commands.add_parser('join', help='join the products of all parts', epilog=STATUS, allow_abbrev=False, description=(
+        'Joins the products of all parts of an archive, in order, to OUT and OUT.json, those of one run. Refuses where a part is missing, '
+        'or is of another archive, table, bias file or version, or is not what its page names.'))
+    join.add_argument('parts', nargs='+', metavar='PART', help='products of the parts, in order, each with its page beside it')
+    join.add_argument('-o', dest='out', required=True, metavar='OUT', help='the file of products')
+    join.set_defaults(run=run_join)
+
+    check = commands.add_parser('check', help='say what is wrong with a table or a bias file', epilog=STATUS, allow_abbrev=False, description=(
+        "Prints the library's answer to a table and to a bias file, and of a refused one every length, tag or value that is wrong."))
+    check.add_argument('table', metavar='TABLE', help='the table')
+    check.add_argument('bias', nargs='?', metavar='BIAS', help='the bias file')
+    check.set_defaults(run=run_check)
+    return main
+
+
+def run_check(words):
+    from . import check
+    library, refused = Library(), False
+    for kind, name, size in (('table', words.table, TABLE_BYTES), ('bias', words.bias, BIAS_BYTES)):
+        if name is not None:
+            answer, lines = check.check(library, kind, shown(name), contents(name, size))
+            print_out(''.join(line + '\n' for line in lines))
+            refused = refused or answer != 0
+    return 1 if refused else 0
+
+
+def opened(library, kind, name, size):
+    """The bytes of a table or bias file that the library accepts."""
+    content = contents(name, size)
+    try:
+        (library.open if kind == 'table' else library.open_bias)(content)
+    except Refusal:
+        from . import check
+        raise Failure('\n'.join(check.check(library, kind, shown(name), content)[1])) from None
+    return content
+
+
+def run_calibrate(words):
+    if words.part != (1, 1) and '-' in words.archives:
+        raise Usage('--part needs files: where standard input ends is not known before')
+    if words.out == '-' and words.part != (1, 1):
+        raise Usage('--part needs -o OUT: a part without its page cannot be joined')
+    if words.out == '-' and os.isatty(1):
+        raise Usage('products are not written to a terminal: name a file with -o OUT')
+    for name in (words.table, words.bias, *words.archives):
+        if words.out != '-' and (same_file(name, words.out) or same_file(name, words.out + '.json')):
+            raise Failure(f'{shown(words.out)}: {shown(name)}, which is read, would be written')
+    library = Library()
+    version = version_words(library.version())
+    table = opened(library, 'table', words.table, TABLE_BYTES)
+    bias = opened(library, 'bias', words.bias, BIAS_BYTES)
+    records = archive.Archive(words.archives)
+    if words.part != (1, 1) and records.records() is None:
+        raise Failure('--part needs files: how long a pipe or device is is not known before')
+    if words.out != '-':
+        page = pages.is_whole(words.out, version, table, bias, records.files, words.part)
+        if page:
+            say(f'{shown(words.out)}: {pages.counts(page)}; it was there and is whole')
+            return 0
+    output = Stream() if words.out == '-' else Results(words.out)
+    progress = Progress(records.records())
+    count = words.jobs or len(os.sched_getaffinity(0))
+    try:
+        tally = archive.calibrate(archive.Calibration(library, table, bias), records, words.part, count, output.write, progress.show)
+    finally:
+        progress.end()
+    page = pages.page_of(version, (words.table, table), (words.bias, bias), records, words.part, tally)
+    if words.out == '-':
+        for refused in page['refused']:
+            say(range_words(records.files[refused['file']].name, refused))
+    else:
+        output.finish(pages.text_of(page))
+    say(f'{shown(words.out) if words.out != "-" else "standard output"}: {pages.counts(page)}')
+    return 0
+
+
+def range_words(name, refused):
+    first, last = refused['first'], refused['last']
+    records = f'record {first}' if first == last else f'records {first} to {last}'
+    return f'{shown(name)}: {records} offset {refused["offset"]} refused {refused["number"]}'
+
+
+def run_join(words):
+    page = pages.join(words.parts, words.out)
+    say(f'{shown(words.out)}: {pages.counts(page)}')
+    return 0
+
+
+class Usage(Exception):
+    """Wrong usage, in words."""
+
+
+def hold_streams():
+    """A stream that is closed becomes one that cannot be read and written, so that no file of a run takes its place."""
+    for descriptor in (0, 1, 2):
+        try:
+            os.fstat(descriptor)
+        except OSError:
+            os.open('/dev/null', os.O_WRONLY if descriptor == 0 else os.O_RDONLY)
+
+
+def end_at_signals():
+    """A signal that ends the run is told; one that is ignored, as under nohup, stays so."""
+    def end(number, frame):
+        for other in ENDING:
+            signal.signal(other, signal.SIG_IGN)
+        raise Ended(number)
+    for number in ENDING:
+        if signal.getsignal(number) != signal.SIG_IGN:
+            signal.signal(number, end)
+
+
+def main(arguments=None):
+    hold_streams()
+    end_at_signals()
+    try:
+        return run(arguments)
+    except Ended as ended:
+        drop_unfinished()
+        say(f'sounder: ended by {signal.Signals(ended.number).name}')
+        signal.signal(ended.number, signal.SIG_DFL)
+        os.kill(os.getpid(), ended.number)
+        return 1
+    finally:
+        drop_unfinished()
+
+
+def run(arguments):
+    """Runs the command and answers its status."""
+    try:
+        words = parser().parse_args(arguments)
+        if words.version:
+            print_out(f'sounder {version_words(Library().version())}\n')
+            return 0
+        if words.command is None:
+            raise Usage('a command is needed; `sounder --help` lists them')
+        return words.run(words)
+    except Usage as failure:
+        say(f'sounder: {failure}')
+        return 2
+    except (Failure, Missing) as failure:
+        say(f'sounder: {failure}')
+        return 1
+    except MemoryError:
+        say('sounder: there is too little memory')
+        return 1

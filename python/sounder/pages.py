@@ -1,0 +1,186 @@
+"""The page beside a file of products: what it was made of, and what became of the records. Parts that are joined by their pages."""
+import hashlib
+import json
+import os
+from collections import Counter
+
+from .archive import add_range
+from .failure import Failure, failed, shown
+from .files import Results, same_file
+from .library import PRODUCT_BYTES
+
+FORM = 1
+BLOCK = 1 << 22
+
+
+def sum_of(content):
+    return hashlib.sha256(content).hexdigest()
+
+
+def page_of(version, table, bias, archive, part, tally):
+    """The page of a run. Table and bias file are pairs of a name and bytes."""
+    number, of = part
+    return {
+        'form': FORM,
+        'version': version,
+        'table': {'name': table[0], 'sha256': sum_of(table[1])},
+        'bias': {'name': bias[0], 'sha256': sum_of(bias[1])},
+        'archive': [{'name': file.name, 'bytes': file.read, 'sha256': file.sum.hexdigest()} for file in archive.files],
+        'part': {'number': number, 'of': of},
+        'before': tally.began,
+        'after': tally.ended,
+        'records': tally.records,
+        'products': {'number': tally.products, 'bytes': tally.products * PRODUCT_BYTES, 'sha256': tally.sum.hexdigest()},
+        'refusals': {str(answer): tally.refusals[answer] for answer in sorted(tally.refusals)},
+        'refused': tally.refused,
+    }
+
+
+def text_of(page):
+    """A page as JSON: a line for each entry, and one for each range of refused records."""
+    lines = []
+    for name, value in page.items():
+        if name == 'refused' and value:
+            value = '[\n  ' + ',\n  '.join(map(json.dumps, value)) + ']'
+        else:
+            value = json.dumps(value)
+        lines.append(f' {json.dumps(name)}: {value}')
+    return ('{\n' + ',\n'.join(lines) + '\n}\n').encode('ascii')
+
+
+SUM = {'name': str, 'sha256': str}
+SHAPE = {
+    'form': int, 'version': str, 'table': SUM, 'bias': SUM, 'archive': [{**SUM, 'bytes': int}], 'part': {'number': int, 'of': int},
+    'before': [[int]], 'after': [[int]], 'records': int, 'products': {'number': int, 'bytes': int, 'sha256': str}, 'refusals': dict,
+    'refused': [{'file': int, 'first': int, 'last': int, 'offset': int, 'number': int}],
+}
+
+
+def has_shape(value, shape):
+    """Whether a value is of a kind, or has the entries of a shape with theirs, or is a list of such values."""
+    if isinstance(shape, dict):
+        return isinstance(value, dict) and value.keys() == shape.keys() and all(has_shape(value[name], shape[name]) for name in shape)
+    if isinstance(shape, list):
+        return isinstance(value, list) and all(has_shape(item, shape[0]) for item in value)
+    return isinstance(value, shape)
+
+
+def read_page(products):
+    """The page of a file of products."""
+    name = products + '.json'
+    try:
+        with open(name, 'rb') as file:
+            page = json.loads(file.read())
+    except OSError as failure:
+        raise failed(name, failure) from None
+    except (ValueError, RecursionError):
+        page = None
+    if not has_shape(page, SHAPE) or page['form'] != FORM or not all(isinstance(count, int) for count in page['refusals'].values()):
+        raise Failure(f'{shown(name)}: this is no page of products')
+    return page
+
+
+def made_of(page):
+    """What products were made of: the same of all parts of one archive."""
+    return {
+        'version': page['version'], 'table': page['table']['sha256'], 'bias file': page['bias']['sha256'],
+        'archive': [(file['bytes'], file['sha256']) for file in page['archive']], 'number of parts': page['part']['of'],
+    }
+
+
+def blocks_of(name):
+    """The bytes of a file, block by block."""
+    try:
+        with open(name, 'rb', buffering=0) as file:
+            while block := file.read(BLOCK):
+                yield block
+    except OSError as failure:
+        raise failed(name, failure) from None
+
+
+def sum_of_file(name):
+    total = hashlib.sha256()
+    for block in blocks_of(name):
+        total.update(block)
+    return total.hexdigest()
+
+
+def is_whole(out, version, table, bias, files, part):
+    """The page of products that are there already, whole, and made by this version of this table, bias file, archive and part; else
+    None. The page is asked first, and then the bytes."""
+    try:
+        page = read_page(out)
+        sizes = [file.size() for file in files]
+        asked = {'version': version, 'table': sum_of(table), 'bias file': sum_of(bias), 'number of parts': part[1]}
+        given = made_of(page)
+        if {**given, **asked} != given or page['part']['number'] != part[0] or [size for size, _ in given['archive']] != sizes:
+            return None
+        if os.path.getsize(out) != page['products']['bytes'] or sum_of_file(out) != page['products']['sha256']:
+            return None
+        if [sum_of_file(file.name) for file in files] != [total for _, total in given['archive']]:
+            return None
+    except (Failure, OSError):
+        return None
+    return page
+
+
+def join(names, out):
+    """Joins the products of all parts of an archive, in order, to those of one run; answers their page."""
+    pages = [read_page(name) for name in names]
+    first, of = pages[0], pages[0]['part']['of']
+    for name, page in zip(names, pages):
+        for what, value in made_of(page).items():
+            if value != made_of(first)[what]:
+                raise Failure(f'{shown(name)}: its {what} is another than that of {shown(names[0])}')
+    for number, (name, page) in enumerate(zip(names, pages), 1):
+        if page['part']['number'] != number:
+            raise Failure(f'{shown(name)}: this is part {page["part"]["number"]} of {of}, and part {number} must stand here')
+    if len(names) != of:
+        raise Failure(f'{shown(names[-1])}: this is part {len(names)} of {of}, and none follows')
+    for name, page, before in zip(names[1:], pages[1:], pages):
+        if page['before'] != before['after']:
+            raise Failure(f'{shown(name)}: it was made behind the accepted records {page["before"]}, and the part before it ends with '
+                          f'{before["after"]}')
+    for name in names:
+        if same_file(name, out) or same_file(name + '.json', out + '.json'):
+            raise Failure(f'{shown(out)}: this is one of the parts')
+    results, total = Results(out), hashlib.sha256()
+    for name, page in zip(names, pages):
+        own, size = hashlib.sha256(), 0
+        for block in blocks_of(name):
+            own.update(block)
+            total.update(block)
+            results.write(block)
+            size += len(block)
+        if (size, own.hexdigest()) != (page['products']['bytes'], page['products']['sha256']):
+            raise Failure(f'{shown(name)}: its bytes are not those that its page names')
+    whole = joined(pages, total.hexdigest())
+    results.finish(text_of(whole))
+    return whole
+
+
+def joined(pages, products):
+    """The page of all parts: that of one run."""
+    refusals, refused = Counter(), []
+    for page in pages:
+        refusals.update(page['refusals'])
+        for own in page['refused']:
+            add_range(refused, own)
+    number = sum(page['products']['number'] for page in pages)
+    return {
+        **pages[0],
+        'part': {'number': 1, 'of': 1},
+        'after': pages[-1]['after'],
+        'records': sum(page['records'] for page in pages),
+        'products': {'number': number, 'bytes': number * PRODUCT_BYTES, 'sha256': products},
+        'refusals': {answer: refusals[answer] for answer in sorted(refusals, key=int)},
+        'refused': refused,
+    }
+
+
+def counts(page):
+    """The line of counts."""
+    refusals = page['refusals']
+    total = sum(refusals.values())
+    by_number = ', '.join(f'{count} with {answer}' for answer, count in refusals.items())
+    return f'records {page["records"]} products {page["products"]["number"]} refused {total}' + (f': {by_number}' if total else '')
