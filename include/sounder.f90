@@ -24,7 +24,7 @@ module sounder
     integer, parameter, public :: sounder_byte = c_int8_t
 
     ! The version of this module: 10000 * major + 100 * minor + patch.
-    integer, parameter, public :: sounder_version_number = 60000
+    integer, parameter, public :: sounder_version_number = 60100
 
     integer, parameter, public :: sounder_table_bytes = 1404
     integer, parameter, public :: sounder_bias_bytes = 8451

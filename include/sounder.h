@@ -21,8 +21,8 @@ extern "C" {
 #endif
 
 /* The version of this header, as text and as the number 10000 * major + 100 * minor + patch. */
-#define SOUNDER_VERSION "6.0.0"
-#define SOUNDER_VERSION_NUMBER 60000
+#define SOUNDER_VERSION "6.1.0"
+#define SOUNDER_VERSION_NUMBER 60100
 
 enum {
     SOUNDER_TABLE_BYTES = 1404,

@@ -14,9 +14,8 @@ import os
 import stat
 import struct
 from array import array
-from collections import Counter
+from collections import Counter, namedtuple
 from itertools import groupby
-from typing import NamedTuple
 
 from .failure import Failure, failed, shown
 from .files import read_up_to
@@ -31,6 +30,7 @@ READ = os.O_RDONLY | os.O_CLOEXEC
 UNCHANGED = ('st_dev', 'st_ino', 'st_size', 'st_mtime_ns')
 # Where the scan number stands in a record.
 NUMBER, NUMBER_AT = struct.Struct('>I'), 3
+RECORD_WITH_NUMBER = struct.Struct(f'>{NUMBER_AT}xI{RECORD_BYTES - NUMBER_AT - 4}x')
 # What the library answers to a record that it refuses, and to one that it would accept if there were room for its product.
 REFUSALS, NO_ROOM = (4, 5, 6), 7
 
@@ -105,11 +105,8 @@ class Archive:
         return None if None in sizes else sum(-(-size // RECORD_BYTES) for size in sizes)
 
 
-class Record(NamedTuple):
-    """A record from before a piece: its place in the archive, counted from 0, its number and its bytes."""
-    place: int
-    number: int
-    content: bytes
+# A record from before a piece: its place in the archive, counted from 0, its number and its bytes.
+Record = namedtuple('Record', 'place number content')
 
 
 class Piece:
@@ -155,6 +152,10 @@ class Piece:
     def number(self, at):
         """Its scan number, if its tags and lengths are right."""
         return NUMBER.unpack_from(self.bytes, self.offset(at) + NUMBER_AT)[0]
+
+    def numbers(self):
+        """The same of each own record that has its whole length."""
+        return RECORD_WITH_NUMBER.iter_unpack(self.own[:(self.count - (self.last_length < RECORD_BYTES)) * RECORD_BYTES])
 
     def place_of(self, at):
         return self.before[at].place if at < len(self.before) else self.place + at - len(self.before)
@@ -207,12 +208,13 @@ class Calibration:
         answers = piece.call(self.library, self.table, self.bias, self.one_product, rooms)
         if last is not None:
             rooms[last] = 0
-        above = [at for at in range(len(piece.before), piece.all) if answers[at] == NO_ROOM]
+        begin = len(piece.before)
+        above = {at: number for at, (number,) in enumerate(piece.numbers(), begin) if answers[at] == NO_ROOM}
         if not above:
             return piece.before
-        greatest = max(map(piece.number, above))
-        records = [record for record in piece.before if record.number + NUMBERS > greatest]
-        records += [piece.record(at) for at in above if piece.number(at) + NUMBERS > greatest]
+        least = max(above.values()) - NUMBERS + 1
+        records = [record for record in piece.before if record.number >= least]
+        records += [piece.record(at) for at, number in above.items() if number >= least]
         return records if len(records) <= NUMBERS else self.accepted(records)
 
     def accepted(self, records):

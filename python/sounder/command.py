@@ -12,7 +12,8 @@ from .files import ENDING, Results, Stream, contents, drop_unfinished, same_file
 from .library import BIAS_BYTES, TABLE_BYTES, Library, Missing, Refusal, version_words
 
 DESCRIPTION = 'Calibrates microwave sounder scans by the proved library.'
-STATUS = 'The exit status is 0 only where everything asked for is on disk or was written; 1 where something is refused or fails; 2 for wrong usage.'
+STATUS = ('The exit status is 0 only where everything asked for is on disk or was written; 1 where something is refused or fails; 2 for '
+          'wrong usage.')
 
 
 class Ended(BaseException):
@@ -88,12 +89,18 @@ def jobs(text):
     return int(text)
 
 
+def added(commands, run, name, help, description):
+    command = commands.add_parser(name, help=help, description=description, epilog=STATUS, allow_abbrev=False)
+    command.set_defaults(run=run)
+    return command
+
+
 def parser():
     main = Parser(prog='sounder', description=DESCRIPTION, epilog=STATUS, allow_abbrev=False)
     main.add_argument('--version', action='store_true', help='print the version of the library')
-    commands = main.add_subparsers(dest='command', metavar='COMMAND', title='commands')
+    commands = main.add_subparsers(dest='command', metavar='COMMAND', title='commands', prog='sounder')
 
-    calibrate = commands.add_parser('calibrate', help='calibrate an archive of scan records', epilog=STATUS, allow_abbrev=False, description=(
+    calibrate = added(commands, run_calibrate, 'calibrate', 'calibrate an archive of scan records', (
         'Calibrates archives of scan records: their records, in order, are one list. The products of the accepted ones go to OUT, and what '
         'they were made of and which records were refused to OUT.json. Both get their names when they are whole and on the disk. Products '
         'that are there already, whole and made of the same, are not made again.'))
@@ -102,33 +109,30 @@ def parser():
     calibrate.add_argument('--jobs', type=jobs, metavar='N', help='how many pieces are calibrated at a time (all processors)')
     calibrate.add_argument('--part', type=part, default=(1, 1), metavar='K/N', help='only part K of N; `sounder join` joins the parts')
     calibrate.add_argument('archives', nargs='*', default=['-'], metavar='ARCHIVE', help='files of records (standard input, also as -)')
-    calibrate.add_argument('-o', dest='out', default='-', metavar='OUT', help='the file of products (standard output, without a page, also as -)')
-    calibrate.set_defaults(run=run_calibrate)
+    calibrate.add_argument('-o', dest='out', default='-', metavar='OUT', help='the products (standard output, without a page, also as -)')
 
-    join = commands.add_parser('join', help='join the products of all parts', epilog=STATUS, allow_abbrev=False, description=(
+    join = added(commands, run_join, 'join', 'join the products of all parts', (
         'Joins the products of all parts of an archive, in order, to OUT and OUT.json, those of one run. Refuses where a part is missing, '
         'or is of another archive, table, bias file or version, or is not what its page names.'))
     join.add_argument('parts', nargs='+', metavar='PART', help='products of the parts, in order, each with its page beside it')
     join.add_argument('-o', dest='out', required=True, metavar='OUT', help='the file of products')
-    join.set_defaults(run=run_join)
 
-    check = commands.add_parser('check', help='say what is wrong with a table or a bias file', epilog=STATUS, allow_abbrev=False, description=(
+    check = added(commands, run_check, 'check', 'say what is wrong with a table or a bias file', (
         "Prints the library's answer to a table and to a bias file, and of a refused one every length, tag or value that is wrong."))
     check.add_argument('table', metavar='TABLE', help='the table')
     check.add_argument('bias', nargs='?', metavar='BIAS', help='the bias file')
-    check.set_defaults(run=run_check)
     return main
 
 
 def run_check(words):
     from . import check
-    library, refused = Library(), False
+    library, passed = Library(), True
     for kind, name, size in (('table', words.table, TABLE_BYTES), ('bias', words.bias, BIAS_BYTES)):
         if name is not None:
-            answer, lines = check.check(library, kind, shown(name), contents(name, size))
-            print_out(''.join(line + '\n' for line in lines))
-            refused = refused or answer != 0
-    return 1 if refused else 0
+            report = check.check(library, kind, shown(name), contents(name, size))
+            print_out(''.join(line + '\n' for line in report.lines))
+            passed = passed and report.passed
+    return 0 if passed else 1
 
 
 def opened(library, kind, name, size):
@@ -138,7 +142,7 @@ def opened(library, kind, name, size):
         (library.open if kind == 'table' else library.open_bias)(content)
     except Refusal:
         from . import check
-        raise Failure('\n'.join(check.check(library, kind, shown(name), content)[1])) from None
+        raise Failure('\n'.join(check.check(library, kind, shown(name), content).lines)) from None
     return content
 
 
@@ -147,6 +151,8 @@ def run_calibrate(words):
         raise Usage('--part needs files: where standard input ends is not known before')
     if words.out == '-' and words.part != (1, 1):
         raise Usage('--part needs -o OUT: a part without its page cannot be joined')
+    if '-' in words.archives and os.isatty(0):
+        raise Usage('records are not read from a terminal: name an archive')
     if words.out == '-' and os.isatty(1):
         raise Usage('products are not written to a terminal: name a file with -o OUT')
     for name in (words.table, words.bias, *words.archives):

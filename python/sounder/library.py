@@ -155,7 +155,8 @@ class Library:
                                   ('beta', beta, 2**32), ('pam', pam, 2**16), ('offset', offset, 2**16), ('count', count, 2**16)):
             _fits(name, value, most)
         t = ctypes.c_int32()
-        _accepted('the thermometer', self._functions.sounder_thermometer(r_pam, r0, alpha, delta, beta, pam, offset, count, ctypes.byref(t)))
+        answer = self._functions.sounder_thermometer(r_pam, r0, alpha, delta, beta, pam, offset, count, ctypes.byref(t))
+        _accepted('the thermometer', answer)
         return t.value
 
     def feed_all(self, table, bias, records, record_lengths, buffers, buffer_lengths, answers):

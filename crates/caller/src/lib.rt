@@ -85,7 +85,7 @@ pub fn count_behind_a_temperature(state: &[u8], channel: u32, wanted: u32, count
 }
 
 pub fn version_of_the_library() -> u32
-    ensures { λ n. ⌜ n ≡ 60000 ⌝ }
+    ensures { λ n. ⌜ n ≡ 60100 ⌝ }
 {
     station::sounder_version()
 }

@@ -139,5 +139,5 @@ pub extern "C" fn sounder_count_behind(
 pub extern "C" fn sounder_version() -> u32
     ensures { λ n. ⌜ n ≡ libraryVersion ⌝ }
 {
-    60_000
+    60_100
 }
