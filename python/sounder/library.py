@@ -10,7 +10,7 @@ import ctypes
 import os
 
 # The version that this package was written for: 10000 * major + 100 * minor + patch.
-VERSION_NUMBER = 60000
+VERSION_NUMBER = 60100
 
 TABLE_BYTES = 1404
 BIAS_BYTES = 8451
