@@ -40,6 +40,7 @@ class File:
 
     def __init__(self, name):
         self.name, self.read, self.sum, self.descriptor = name, 0, hashlib.sha256(), None
+        self.words = 'standard input' if name == '-' else shown(name)
         try:
             status = os.fstat(0) if name == '-' else os.stat(name)
             self.status = status if stat.S_ISREG(status.st_mode) else None
@@ -49,7 +50,7 @@ class File:
             if self.status and name != '-':
                 os.close(os.open(name, READ))
         except OSError as failure:
-            raise failed(name, failure) from None
+            raise failed(self.words, failure) from None
 
     def size(self):
         """The bytes that are to be read; None where only the end tells."""
@@ -64,7 +65,7 @@ class File:
             self.descriptor = 0 if self.name == '-' else os.open(self.name, READ)
             self.is_as_it_was()
         except OSError as failure:
-            raise failed(self.name, failure) from None
+            raise failed(self.words, failure) from None
 
     def fill(self, view):
         """Reads the next bytes, as many as the view has room for unless the file ends before, and answers how many."""
@@ -74,9 +75,9 @@ class File:
         try:
             have = read_up_to(self.descriptor, view)
         except OSError as failure:
-            raise Failure(f'{shown(self.name)}: it cannot be read from offset {self.read} on: {failure.strerror}') from None
+            raise Failure(f'{self.words}: it cannot be read from offset {self.read} on: {failure.strerror}') from None
         if size is not None and have < len(view):
-            raise Failure(f'{shown(self.name)}: it ends at offset {self.read + have}, and had {size} bytes')
+            raise Failure(f'{self.words}: it ends at offset {self.read + have}, and had {size} bytes')
         self.sum.update(view[:have])
         self.read += have
         return have
@@ -90,7 +91,7 @@ class File:
         """A file that changes while it is read is none that a page could name."""
         status = os.fstat(self.descriptor)
         if self.status and any(getattr(status, name) != getattr(self.status, name) for name in UNCHANGED):
-            raise Failure(f'{shown(self.name)}: it has changed since the run began')
+            raise Failure(f'{self.words}: it has changed since the run began')
 
 
 class Archive:
@@ -167,7 +168,7 @@ class Piece:
     def words(self, at):
         """Names an own record of the piece."""
         record = self.first + at
-        return f'{shown(self.file.name)}: record {record} offset {record * RECORD_BYTES}'
+        return f'{self.file.words}: record {record} offset {record * RECORD_BYTES}'
 
     def product_rows(self):
         """The products of the own records, as rows that stand in one piece."""

@@ -180,17 +180,17 @@ def run_calibrate(words):
     page = pages.page_of(version, (words.table, table), (words.bias, bias), records, words.part, tally)
     if words.out == '-':
         for refused in page['refused']:
-            say(range_words(records.files[refused['file']].name, refused))
+            say(range_words(records.files[refused['file']].words, refused))
     else:
         output.finish(pages.text_of(page))
     say(f'{shown(words.out) if words.out != "-" else "standard output"}: {pages.counts(page)}')
     return 0
 
 
-def range_words(name, refused):
+def range_words(file, refused):
     first, last = refused['first'], refused['last']
     records = f'record {first}' if first == last else f'records {first} to {last}'
-    return f'{shown(name)}: {records} offset {refused["offset"]} refused {refused["number"]}'
+    return f'{file}: {records} offset {refused["offset"]} refused {refused["number"]}'
 
 
 def run_join(words):
@@ -230,8 +230,9 @@ def main(arguments=None):
         return run(arguments)
     except Ended as ended:
         drop_unfinished()
+        for number in ENDING:
+            signal.signal(number, signal.SIG_DFL)
         say(f'sounder: ended by {signal.Signals(ended.number).name}')
-        signal.signal(ended.number, signal.SIG_DFL)
         os.kill(os.getpid(), ended.number)
         return 1
     finally:

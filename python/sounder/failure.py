@@ -7,11 +7,9 @@ class Failure(Exception):
 
 def shown(name):
     """A file's name for a message: as it is, or quoted where it has characters that a line cannot show."""
-    if name == '-':
-        return 'standard input'
     return name if name.isprintable() and name == name.strip() and name else repr(name)
 
 
-def failed(name, failure):
-    """The words of a call of the system that failed."""
-    return Failure(f'{shown(name)}: {failure.strerror or failure}')
+def failed(words, failure):
+    """What a call of the system that failed says of what the words name."""
+    return Failure(f'{words}: {failure.strerror or failure}')

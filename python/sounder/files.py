@@ -20,7 +20,7 @@ def contents(name, most):
                 parts.append(part)
             return b''.join(parts)
     except OSError as failure:
-        raise failed(name, failure) from None
+        raise failed(shown(name), failure) from None
 
 
 def read_up_to(descriptor, view):
@@ -90,9 +90,13 @@ def _remove_left_behind(folder):
             descriptor = os.open(os.path.join(folder, name), os.O_RDWR | os.O_CLOEXEC | os.O_NOFOLLOW | os.O_NONBLOCK)
         except OSError:
             continue
-        if time.time() - os.fstat(descriptor).st_mtime > 60 and _locked(descriptor, fcntl.LOCK_EX | fcntl.LOCK_NB):
-            os.unlink(os.path.join(folder, name))
-        os.close(descriptor)
+        try:
+            if time.time() - os.fstat(descriptor).st_mtime > 60 and _locked(descriptor, fcntl.LOCK_EX | fcntl.LOCK_NB):
+                os.unlink(os.path.join(folder, name))
+        except OSError:
+            pass  # Whoever may remove it will.
+        finally:
+            os.close(descriptor)
 
 
 def _synced(folder):

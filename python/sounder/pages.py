@@ -72,7 +72,7 @@ def read_page(products):
         with open(name, 'rb') as file:
             page = json.loads(file.read())
     except OSError as failure:
-        raise failed(name, failure) from None
+        raise failed(shown(name), failure) from None
     except (ValueError, RecursionError):
         page = None
     if not has_shape(page, SHAPE) or page['form'] != FORM or not all(isinstance(count, int) for count in page['refusals'].values()):
@@ -95,7 +95,7 @@ def blocks_of(name):
             while block := file.read(BLOCK):
                 yield block
     except OSError as failure:
-        raise failed(name, failure) from None
+        raise failed(shown(name), failure) from None
 
 
 def sum_of_file(name):
