@@ -1,5 +1,5 @@
 # README.md says what each target prints. Targets may run side by side: tools/build lets one build at a time write target/.
-.PHONY: run test lib bench install clean
+.PHONY: run test lib bench install uninstall clean
 
 run:
 	@tools/run
@@ -16,6 +16,9 @@ bench:
 # PREFIX and DESTDIR of the command line reach the script through the environment.
 install:
 	@tools/install
+
+uninstall:
+	@tools/install --remove
 
 clean:
 	@rm -rf target compare/target
