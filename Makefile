@@ -1,24 +1,27 @@
 # README.md says what each target prints. Targets may run side by side: tools/build lets one build at a time write target/.
-.PHONY: run test lib bench install uninstall clean
+.PHONY: run test lib bench install uninstall clean help
 
-run:
+run: ## builds the listing program and prints the bench scan's line
 	@tools/run
 
-test:
+test: ## the gate: proves everything from nothing and runs every check
 	@tools/test
 
-lib:
+lib: ## builds the library, static and shared, and prints where it is
 	@tools/lib
 
-bench:
+bench: ## measures speed against the same by hand in Rust
 	@tools/bench
 
 # PREFIX and DESTDIR of the command line reach the script through the environment.
-install:
+install: ## installs below PREFIX (/usr/local if it is left out), with DESTDIR before it
 	@tools/install
 
-uninstall:
+uninstall: ## removes what install installs, with the same PREFIX and DESTDIR
 	@tools/install --remove
 
-clean:
+clean: ## removes what builds have written
 	@rm -rf target compare/target
+
+help: ## prints these lines
+	@awk -F ': ## ' '/^[a-z]+: ## / { printf "make %-9s  %s\n", $$1, $$2 }' Makefile
