@@ -5,9 +5,9 @@
  * Records of 4,648 bytes come from standard input, however they arrive; a shorter rest is one record, which is
  * refused with 4. The product of an accepted record, 8,706 bytes, is written to standard output before the next
  * record is read. A refused record gives a line on standard error, `record N offset B refused M`: it is the Nth of
- * this run's input, counted from 0, and begins at byte B of it. The program goes on from state.bin if there is
- * one, else it begins with a fresh state. With COUNT it stops after so many records and has read nothing behind
- * them.
+ * this run's input, counted from 0, and begins at byte B of it. A line that cannot be written is lost, and the
+ * program goes on. It goes on from state.bin if there is one, else it begins with a fresh state. With COUNT it
+ * stops after so many records and has read nothing behind them.
  *
  * Stops. Whatever ends the program, state.bin is a whole state: a new one is written to state.bin.new, which
  * takes the name state.bin when its bytes are on the disk. A product is written, and is on the disk if standard
@@ -31,9 +31,18 @@
  *
  * A state has no checksum: a station guards state.bin against damage. One state.bin serves one running program.
  *
- * The exit status is 0 when the input has ended or COUNT records were read; 1 where the table or the bias file is
- * refused, state.bin is no state or has another table or bias file, or a file of products ends with a part of one;
- * 2 where the arguments are wrong or something cannot be read or written. */
+ * Bad streams. A record that is refused now and then is one lost scan. A row of refusals is another thing: bytes
+ * were lost, and every record is cut at the wrong place and refused with 5; or a number was too high, and all that
+ * follow it are refused with 6. So 16 refusals in a row, two windows of scans, make the stream a bad one, wherever
+ * in the run they were. Refusals with 6 before the first accepted record of the run do not count, and end a row:
+ * they are the scans that are fed again after a stop. Hence a stream of which nothing is accepted and all is
+ * refused with 6 is not called bad, even if the number that is too high is that of state.bin; the run that
+ * accepted this number called it so, if 16 records came behind it.
+ *
+ * The exit status is 0 when the input has ended or COUNT records were read, and 3 if the stream was bad; 1 where
+ * the table or the bias file is refused, state.bin is no state or has another table or bias file, or a file of
+ * products ends with a part of one; 2 where the arguments are wrong or something else than a line on standard
+ * error cannot be read or written. */
 #define _POSIX_C_SOURCE 200809L
 
 #include <errno.h>
@@ -50,6 +59,9 @@
 
 /* Where the table and the bias file stand in a state. */
 enum { TABLE_AT = 14, BIAS_AT = 3326 };
+
+/* The answer to a number that is not above the last accepted one, and how many refusals in a row a bad stream has. */
+enum { NOT_ABOVE = 6, BAD_ROW = 16 };
 
 /* Ends the program: something cannot be read or written. */
 static void failed(const char *name)
@@ -182,6 +194,9 @@ int main(int argc, char **argv)
     static uint8_t state[SOUNDER_STATE_BYTES], record[SOUNDER_RECORD_BYTES], product[SOUNDER_PRODUCT_BYTES];
     static char new_name[PATH_MAX];
 
+    /* A reader that goes away is an error of write: of a product the end, with a message, and of a line no matter. */
+    signal(SIGPIPE, SIG_IGN);
+
     int counted = argc == 5 && argv[4][0] != '\0' && argv[4][strspn(argv[4], "0123456789")] == '\0';
     if (argc != 4 && !counted) {
         fprintf(stderr, "usage: %s table.bin bias.bin state.bin [COUNT] <scans >>products\n", argv[0]);
@@ -205,13 +220,13 @@ int main(int argc, char **argv)
         fprintf(stderr, "standard output: cut off what stands behind the last whole product first\n");
         return 1;
     }
-    /* A reader of the products that goes away is an error of write, with a message like every other. */
-    signal(SIGPIPE, SIG_IGN);
 
     begin(argv[1], argv[2], state_name, state);
     /* Where states cannot be saved, that is told before the first product. */
     save(state_name, new_name, state);
 
+    int accepted = 0, bad = 0;
+    unsigned long long row = 0;
     /* Behind a shorter rest nothing more is read, even if the input grows. */
     size_t length = sizeof record;
     for (unsigned long long number = 0; number < count && length == sizeof record; number++) {
@@ -223,10 +238,12 @@ int main(int argc, char **argv)
         if (answer == 0) {
             write_all(STDOUT_FILENO, "standard output", product, sizeof product);
             save(state_name, new_name, state);
-        } else if (fprintf(stderr, "record %llu offset %llu refused %u\n", number, number * SOUNDER_RECORD_BYTES,
-                           answer) < 0) {
-            return 2;
+            accepted = 1;
+        } else {
+            fprintf(stderr, "record %llu offset %llu refused %u\n", number, number * SOUNDER_RECORD_BYTES, answer);
         }
+        row = answer == 0 || (answer == NOT_ABOVE && !accepted) ? 0 : row + 1;
+        bad = bad || row == BAD_ROW;
     }
-    return 0;
+    return bad ? 3 : 0;
 }
