@@ -6,6 +6,9 @@
 ! to standard error for each refused one: the Nth record, counted from 0, which begins at byte B. A shorter rest
 ! is one record, which is refused with 4. state.bin holds the state after the last record in the end.
 !
+! Both are new files: where one of them is there already, be it live.c's, the program says so, ends with a status
+! that is not 0 and writes nothing. This run begins with a fresh state, so it could only replace the other one.
+!
 ! A file that cannot be opened or read ends a Fortran program by itself, with a message and a status that is not
 ! 0. A full disk does not: gfortran goes on without a word, so the length of what was written is asked for. A
 ! station that wants a whole state on the disk after a stop at any moment saves it as live.c does.
@@ -41,14 +44,16 @@ program live
     inquire (unit=scans, size=bytes)
     if (bytes < 0) error stop 'the scans are no file'
     records = (bytes + sounder_record_bytes - 1) / sounder_record_bytes
-    open (newunit=products, file=argument(5), access='stream', form='unformatted', status='replace', action='write')
+    call check_new(argument(4))
+    call check_new(argument(5))
+    open (newunit=products, file=argument(5), access='stream', form='unformatted', status='new', action='write')
 
     accepted = 0
     call feed(first_half, 0_int64, records / 2 - 1)
-    call save_state(argument(4), first_half)
+    call save_state(argument(4), first_half, 'new')
     call read_state(argument(4), second_half)
     call feed(second_half, records / 2, records - 1)
-    call save_state(argument(4), second_half)
+    call save_state(argument(4), second_half, 'replace')
 
     close (products)
     close (scans)
@@ -99,11 +104,22 @@ contains
         close (file)
     end subroutine read_file
 
-    subroutine save_state(name, state)
+    ! Ends the program where a file that it is to make is there.
+    subroutine check_new(name)
         character(*), intent(in) :: name
+        logical :: there
+        inquire (file=name, exist=there)
+        if (there) then
+            write (error_unit, '(2a)') name, ': this is there already; name another file, or move it away'
+            error stop
+        end if
+    end subroutine check_new
+
+    subroutine save_state(name, state, status)
+        character(*), intent(in) :: name, status
         integer(sounder_byte), intent(in) :: state(sounder_state_bytes)
         integer :: file
-        open (newunit=file, file=name, access='stream', form='unformatted', status='replace', action='write')
+        open (newunit=file, file=name, access='stream', form='unformatted', status=status, action='write')
         write (file) state
         close (file)
         call check_length(name, int(sounder_state_bytes, int64))
