@@ -35,7 +35,7 @@ program live
         else
             write (error_unit, '(a,i0)') 'the bias file is refused with ', answer
         end if
-        error stop
+        stop 1
     end if
     ! The state has both.
     deallocate (table, bias)
@@ -111,7 +111,7 @@ contains
         inquire (file=name, exist=there)
         if (there) then
             write (error_unit, '(2a)') name, ': this is there already; name another file, or move it away'
-            error stop
+            stop 1
         end if
     end subroutine check_new
 
@@ -133,7 +133,7 @@ contains
         inquire (file=name, size=written)
         if (written /= length) then
             write (error_unit, '(2a)') name, ': not all bytes were written'
-            error stop
+            stop 1
         end if
     end subroutine check_length
 
