@@ -10,7 +10,7 @@ test: ## the gate: proves everything from nothing and runs every check
 lib: ## builds the library, static and shared, and prints where it is
 	@tools/lib
 
-bench: ## measures speed against the same by hand in Rust
+bench: ## measures speed against the same by hand in Rust, and of the command against one run
 	@tools/bench
 
 # PREFIX and DESTDIR of the command line reach the script through the environment.
@@ -21,7 +21,7 @@ uninstall: ## removes what install installs, with the same PREFIX and DESTDIR
 	@tools/install --remove
 
 clean: ## removes what builds have written
-	@rm -rf target compare/target
+	@rm -rf target compare/target python/*/__pycache__
 
 help: ## prints these lines
 	@awk -F ': ## ' '/^[a-z]+: ## / { printf "make %-9s  %s\n", $$1, $$2 }' Makefile

@@ -297,9 +297,12 @@ def calibrate(calibration, archive, part, jobs, write, show):
         tally.take(piece)
         for row in piece.product_rows():
             tally.sum.update(row)
+
+    def keep(piece):
+        for row in piece.product_rows():
             write(row)
 
-    pipeline = Pipeline([Piece() for _ in range(jobs + 2)], calibration.feed, take, jobs)
+    pipeline = Pipeline([Piece() for _ in range(jobs + 3)], calibration.feed, [take, keep], jobs)
     try:
         place, before = 0, []
         for file in archive.files:

@@ -4,19 +4,21 @@ from queue import SimpleQueue
 
 
 class Pipeline:
-    """Each slot that is put goes through `work` on one of `jobs` threads and then through `take` on one further thread, in the order in
-    which the slots were put. A slot that was taken is free again. What `work` or `take` raises ends the pipeline, and is raised to whoever
-    waits for a slot. The threads are daemons: none outlives the process, not even one that waits for a reader of standard output."""
+    """Each slot that is put goes through `work` on one of `jobs` threads, and then through each of `takers`, which has a thread of its own
+    and takes the slots in the order in which they were put. A slot that all have taken is free again. What one of them raises ends the
+    pipeline, and is raised to whoever waits for a slot. The threads are daemons: none outlives the process, not even one that waits for a
+    reader of standard output."""
 
-    def __init__(self, slots, work, take, jobs):
-        self.slots, self.work, self.take = slots, work, take
-        self.failure = None
-        self.free, self.todo, self.order = SimpleQueue(), SimpleQueue(), SimpleQueue()
-        self.jobs = jobs
+    def __init__(self, slots, work, takers, jobs):
+        self.slots, self.work, self.jobs, self.failure = slots, work, jobs, None
+        self.todo, self.free = SimpleQueue(), SimpleQueue()
+        self.orders = [SimpleQueue() for _ in takers]
         for slot in slots:
             self.free.put(slot)
-        for loop in [self._work] * jobs + [self._take]:
-            threading.Thread(target=self._guarded, args=(loop,), daemon=True).start()
+        loops = [(self._work,)] * jobs
+        loops += [(self._take, *stage) for stage in zip(takers, self.orders, self.orders[1:] + [self.free])]
+        for loop in loops:
+            threading.Thread(target=self._guarded, args=loop, daemon=True).start()
 
     def slot(self):
         """Waits for a free slot."""
@@ -27,7 +29,7 @@ class Pipeline:
 
     def put(self, slot):
         slot.worked = threading.Event()
-        self.order.put(slot)
+        self.orders[0].put(slot)
         self.todo.put(slot)
 
     def end(self):
@@ -38,13 +40,12 @@ class Pipeline:
 
     def stop(self):
         """Ends the threads, each with what it is at."""
-        for _ in range(self.jobs):
-            self.todo.put(None)
-        self.order.put(None)
+        for queue in [self.todo] * self.jobs + self.orders:
+            queue.put(None)
 
-    def _guarded(self, loop):
+    def _guarded(self, loop, *words):
         try:
-            loop()
+            loop(*words)
         except BaseException as failure:
             self.failure = self.failure or failure
             self.free.put(None)
@@ -54,8 +55,8 @@ class Pipeline:
             self.work(slot)
             slot.worked.set()
 
-    def _take(self):
-        while (slot := self.order.get()) is not None:
+    def _take(self, take, order, next_order):
+        while (slot := order.get()) is not None:
             slot.worked.wait()
-            self.take(slot)
-            self.free.put(slot)
+            take(slot)
+            next_order.put(slot)
