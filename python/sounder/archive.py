@@ -10,6 +10,7 @@ which is the last accepted one behind the piece. That a piece began with the rig
 that it accepted from before it must be those with which the piece before it ended.
 """
 import hashlib
+import mmap
 import os
 import stat
 import struct
@@ -23,7 +24,7 @@ from .library import PRODUCT_BYTES, RECORD_BYTES
 from .pipeline import Pipeline
 
 # Records in one call: enough that those from before it, fed once more, cost little, and few enough that a piece stays small.
-PIECE = 512
+PIECE = 256
 # How many numbers a piece reaches back: the last accepted number and the six before it.
 NUMBERS = 7
 READ = os.O_RDONLY | os.O_CLOEXEC
@@ -114,8 +115,9 @@ class Piece:
     """Room for one call of the library. The own records stand behind room for those from before the piece."""
 
     def __init__(self):
-        self.bytes = memoryview(bytearray((NUMBERS + PIECE) * RECORD_BYTES))
-        self.products = memoryview(bytearray((NUMBERS + PIECE) * PRODUCT_BYTES))
+        # Memory that is not filled before it is used.
+        self.bytes = memoryview(mmap.mmap(-1, (NUMBERS + PIECE) * RECORD_BYTES))
+        self.products = memoryview(mmap.mmap(-1, (NUMBERS + PIECE) * PRODUCT_BYTES))
         self.own = self.bytes[NUMBERS * RECORD_BYTES:]
         self.answers = bytearray(NUMBERS + PIECE)
         self.lengths = array('I', [RECORD_BYTES] * (NUMBERS + PIECE))
