@@ -2,12 +2,13 @@
 import hashlib
 import json
 import os
+import stat
 from collections import Counter
 
-from .archive import add_range
+from .archive import REFUSALS, add_range
 from .failure import Failure, failed, shown
 from .files import Results, same_file
-from .library import PRODUCT_BYTES
+from .library import PRODUCT_BYTES, RECORD_BYTES
 
 FORM = 1
 BLOCK = 1 << 22
@@ -62,20 +63,41 @@ def has_shape(value, shape):
         return isinstance(value, dict) and value.keys() == shape.keys() and all(has_shape(value[name], shape[name]) for name in shape)
     if isinstance(shape, list):
         return isinstance(value, list) and all(has_shape(item, shape[0]) for item in value)
-    return isinstance(value, shape)
+    return type(value) is shape
+
+
+def agrees(page):
+    """Whether the counts of a page and its ranges fit together."""
+    refusals, products = Counter(), page['products']
+    for own in page['refused']:
+        if not (0 <= own['file'] < len(page['archive']) and 0 <= own['first'] <= own['last'] and own['number'] in REFUSALS
+                and own['offset'] == own['first'] * RECORD_BYTES):
+            return False
+        refusals[str(own['number'])] += own['last'] - own['first'] + 1
+    return (dict(refusals) == page['refusals'] and page['records'] == products['number'] + sum(refusals.values())
+            and products['bytes'] == products['number'] * PRODUCT_BYTES and all(len(pair) == 2 for pair in page['before'] + page['after']))
+
+
+def opened(name):
+    """A file to read. What is no file may let a reader wait, or have no end."""
+    file = open(name, 'rb', buffering=0, opener=lambda name, flags: os.open(name, flags | os.O_NONBLOCK))
+    if not stat.S_ISREG(os.fstat(file.fileno()).st_mode):
+        file.close()
+        raise Failure(f'{shown(name)}: this is no file')
+    return file
 
 
 def read_page(products):
     """The page of a file of products."""
     name = products + '.json'
     try:
-        with open(name, 'rb') as file:
+        with opened(name) as file:
             page = json.loads(file.read())
     except OSError as failure:
         raise failed(shown(name), failure) from None
     except (ValueError, RecursionError):
         page = None
-    if not has_shape(page, SHAPE) or page['form'] != FORM or not all(isinstance(count, int) for count in page['refusals'].values()):
+    if not has_shape(page, SHAPE) or page['form'] != FORM or not agrees(page):
         raise Failure(f'{shown(name)}: this is no page of products')
     return page
 
@@ -91,7 +113,7 @@ def made_of(page):
 def blocks_of(name):
     """The bytes of a file, block by block."""
     try:
-        with open(name, 'rb', buffering=0) as file:
+        with opened(name) as file:
             while block := file.read(BLOCK):
                 yield block
     except OSError as failure:
