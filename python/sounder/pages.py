@@ -159,13 +159,14 @@ def join(names, out):
             raise Failure(f'{shown(name)}: this is part {page["part"]["number"]} of {of}, and part {number} must stand here')
     if len(names) != of:
         raise Failure(f'{shown(names[-1])}: this is part {len(names)} of {of}, and none follows')
-    for name, page, before in zip(names[1:], pages[1:], pages):
-        if page['before'] != before['after']:
-            raise Failure(f'{shown(name)}: it was made behind the accepted records {page["before"]}, and the part before it ends with '
-                          f'{before["after"]}')
-    for name in names:
-        if same_file(name, out) or same_file(name + '.json', out + '.json'):
-            raise Failure(f'{shown(out)}: this is one of the parts')
+    before = []
+    for name, page in zip(names, pages):
+        if page['before'] != before:
+            raise Failure(f'{shown(name)}: it was made behind the accepted records {page["before"]}, and those before it are {before}')
+        before = page['after']
+    for name in (*names, *(name + '.json' for name in names)):
+        if same_file(name, out) or same_file(name, out + '.json'):
+            raise Failure(f'{shown(out)}: {shown(name)}, which is read, would be written')
     results, total = Results(out), hashlib.sha256()
     for name, page in zip(names, pages):
         own, size = hashlib.sha256(), 0
