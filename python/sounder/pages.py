@@ -132,7 +132,8 @@ def is_whole(out, version, table, bias, files, part):
     None. The page is asked first, and then the bytes."""
     try:
         page = read_page(out)
-        sizes = [file.size() for file in files]
+        # What standard input has is not known before it is read, and a file may have the name -.
+        sizes = [None if file.name == '-' else file.size() for file in files]
         asked = {'version': version, 'table': sum_of(table), 'bias file': sum_of(bias), 'number of parts': part[1]}
         given = made_of(page)
         if {**given, **asked} != given or page['part']['number'] != part[0] or [size for size, _ in given['archive']] != sizes:
