@@ -1,6 +1,6 @@
 """Pieces of work that are done on several threads at once and taken in order."""
 import threading
-from queue import SimpleQueue
+from queue import LifoQueue, SimpleQueue
 
 
 class Pipeline:
@@ -11,7 +11,8 @@ class Pipeline:
 
     def __init__(self, slots, work, takers, jobs):
         self.slots, self.work, self.jobs, self.failure = slots, work, jobs, None
-        self.todo, self.free = SimpleQueue(), SimpleQueue()
+        # The slot that was freed last comes first: its memory is at hand.
+        self.todo, self.free = SimpleQueue(), LifoQueue()
         self.orders = [SimpleQueue() for _ in takers]
         for slot in slots:
             self.free.put(slot)
