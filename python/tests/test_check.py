@@ -1,11 +1,13 @@
 """The formats as data, held at every edge of every value to the library and to docs/RULES.md; and the lines that explain a refusal."""
+import os
 import random
 import re
 import struct
 import unittest
 from collections import Counter
 
-from common import ROOT
+from . import common
+from .common import sample
 from sounder import library as functions
 from sounder.check import check, faults, judged
 from sounder.formats import BIAS, HEAD, PRODUCT, RECORD, SCAN_NUMBER, TABLE, TYPES, values_of
@@ -25,10 +27,6 @@ SUM_WORDS = ('field 0x10, settings: the sum of w0 to w7 at 3 to 10', 'field 0x10
 S_LOW, S_HIGH = -245_760, 245_760
 PLACES = {(place.row, place.name): place for place in TABLE.places}
 BIAS_PLACES = {(place.row, place.name): place for place in BIAS.places}
-
-
-def sample(name):
-    return (ROOT / 'samples' / name).read_bytes()
 
 
 def put(content, place, value):
@@ -370,7 +368,7 @@ class Rules(unittest.TestCase):
 
     @classmethod
     def setUpClass(cls):
-        text = (ROOT / 'docs' / 'RULES.md').read_text(encoding='utf-8')
+        text = common.contents(os.path.join(common.ROOT, 'docs', 'RULES.md')).decode()
         cls.lines = text[text.index('\n## 3. '):text.index('\n## 6. ')].splitlines()
 
     def test_heads(self):

@@ -1,0 +1,1 @@
+"""Tests of the package and of the command: tools/python-check runs them all."""
