@@ -7,6 +7,7 @@ An answer that is a refusal is raised as `Refusal`, with the operation, its numb
 themselves.
 """
 import ctypes
+import operator
 import os
 
 # The version that this package was written for: 10000 * major + 100 * minor + patch.
@@ -151,12 +152,11 @@ class Library:
 
     def thermometer(self, r_pam, r0, alpha, delta, beta, pam, offset, count):
         """The temperature of one thermometer, in units of 1/4096 degree Celsius."""
-        for name, value, most in (('r_pam', r_pam, 2**32), ('r0', r0, 2**32), ('alpha', alpha, 2**32), ('delta', delta, 2**32),
-                                  ('beta', beta, 2**32), ('pam', pam, 2**16), ('offset', offset, 2**16), ('count', count, 2**16)):
-            _fits(name, value, most)
+        numbers = [_whole(name, value, most) for name, value, most in (
+            ('r_pam', r_pam, 2**32), ('r0', r0, 2**32), ('alpha', alpha, 2**32), ('delta', delta, 2**32), ('beta', beta, 2**32),
+            ('pam', pam, 2**16), ('offset', offset, 2**16), ('count', count, 2**16))]
         t = ctypes.c_int32()
-        answer = self._functions.sounder_thermometer(r_pam, r0, alpha, delta, beta, pam, offset, count, ctypes.byref(t))
-        _accepted('the thermometer', answer)
+        _accepted('the thermometer', self._functions.sounder_thermometer(*numbers, ctypes.byref(t)))
         return t.value
 
     def feed_all(self, table, bias, records, record_lengths, buffers, buffer_lengths, answers):
@@ -181,8 +181,7 @@ class Library:
 
     def count_behind(self, state, channel, wanted):
         """The count behind a temperature, in units of 1/4096 K before scan bias, or None where no count fits."""
-        _fits('channel', channel, 2**32)
-        _fits('wanted', wanted, 2**32)
+        channel, wanted = _whole('channel', channel, 2**32), _whole('wanted', wanted, 2**32)
         count = ctypes.c_uint16()
         answer = self._functions.sounder_count_behind(*_read(state), channel, wanted, ctypes.byref(count))
         if answer == NO_COUNT:
@@ -202,7 +201,9 @@ def _accepted(operation, answer):
         raise Refusal(operation, answer)
 
 
-def _fits(name, value, most):
-    """ctypes would take the lowest bits of any number."""
+def _whole(name, value, most):
+    """A whole number below `most`: ctypes would take the lowest bits of any number."""
+    value = operator.index(value)
     if not 0 <= value < most:
         raise ValueError(f'{name} is {value}, and must be from 0 to {most - 1}')
+    return value
