@@ -10,6 +10,8 @@ import ctypes
 import operator
 import os
 
+from .failure import shown
+
 # The version that this package was written for: 10000 * major + 100 * minor + patch.
 VERSION_NUMBER = 60100
 
@@ -37,6 +39,21 @@ WORDS = {
     12: "no scan was accepted, or the channel's flag in the last accepted one is not 0",
     NO_STATE: 'the bytes are no state, or there is no room for one',
     NOT_FED: 'this feed was not made',
+}
+
+U8, U16, U32, SIZE, POINTER = ctypes.c_uint8, ctypes.c_uint16, ctypes.c_uint32, ctypes.c_size_t, ctypes.c_void_p
+ROW = [POINTER, SIZE]
+# The arguments and the answer of each function.
+FUNCTIONS = {
+    'sounder_version': ([], U32),
+    'sounder_open': (ROW, U8),
+    'sounder_open_bias': (ROW, U8),
+    'sounder_thermometer': ([U32] * 5 + [U16] * 3 + [POINTER], U8),
+    'sounder_feed_all': (ROW * 7, U8),
+    'sounder_state_size': ([], SIZE),
+    'sounder_fresh': (ROW * 3, U8),
+    'sounder_feed': (ROW * 3, U8),
+    'sounder_count_behind': (ROW + [U32, U32, POINTER], U8),
 }
 
 
@@ -73,15 +90,22 @@ def _load():
     place = _places()[0]
     try:
         loaded = ctypes.CDLL(place)
-    except OSError as failure:
-        raise Missing(f'the library cannot be loaded ({failure}): build it with `make lib`, or name it in SOUNDER_LIBRARY') from None
+    except (OSError, UnicodeError) as failure:
+        # The loader's words have the name in them, whose bytes may be no text.
+        words = str(failure).rpartition(place + ': ')[2] if isinstance(failure, OSError) else 'the loader refuses it'
+        raise Missing(f'the library {shown(place)} cannot be loaded ({shown(words)}): build it with `make lib`, or name it in '
+                      f'SOUNDER_LIBRARY') from None
     if not hasattr(loaded, 'sounder_version'):
-        raise Missing(f'{place} is not the library of the sounder calibrator')
+        raise Missing(f'{shown(place)} is not the library of the sounder calibrator')
     loaded.sounder_version.restype = ctypes.c_uint32
     found = loaded.sounder_version()
     if found // 10000 != VERSION_NUMBER // 10000 or found < VERSION_NUMBER:
-        raise Missing(f'{place} is version {version_words(found)}, and this package needs {version_words(VERSION_NUMBER)} or a later one '
-                      f'with the same first number')
+        raise Missing(f'{shown(place)} is version {version_words(found)}, and this package needs {version_words(VERSION_NUMBER)} or a later '
+                      f'one with the same first number')
+    for name in FUNCTIONS:
+        if not hasattr(loaded, name):
+            raise Missing(f'{shown(place)} is not the library of the sounder calibrator: it has no {name}')
+        getattr(loaded, name).argtypes, getattr(loaded, name).restype = FUNCTIONS[name]
     return loaded
 
 
@@ -119,20 +143,6 @@ class Library:
 
     def __init__(self):
         self._functions = _load()
-        u8, u16, u32, size, pointer = ctypes.c_uint8, ctypes.c_uint16, ctypes.c_uint32, ctypes.c_size_t, ctypes.c_void_p
-        row = [pointer, size]
-        for name, arguments, answer in (
-                ('sounder_open', row, u8),
-                ('sounder_open_bias', row, u8),
-                ('sounder_thermometer', [u32] * 5 + [u16] * 3 + [pointer], u8),
-                ('sounder_feed_all', row * 7, u8),
-                ('sounder_state_size', [], size),
-                ('sounder_fresh', row * 3, u8),
-                ('sounder_feed', row * 3, u8),
-                ('sounder_count_behind', row + [u32, u32, pointer], u8),
-                ('sounder_version', [], u32)):
-            function = getattr(self._functions, name)
-            function.argtypes, function.restype = arguments, answer
 
     def version(self):
         """10000 * major + 100 * minor + patch of the library."""
