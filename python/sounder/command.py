@@ -42,11 +42,11 @@ def print_out(text):
 class Parser(argparse.ArgumentParser):
     """Help that cannot be written is a failure, and messages go where those of a run go."""
 
+    def print_help(self, file=None):
+        print_out(self.format_help())
+
     def _print_message(self, message, file=None):
-        if file is sys.stdout:
-            print_out(message)
-        else:
-            say(message.rstrip('\n'))
+        say(message.rstrip('\n'))
 
 
 class Progress:
