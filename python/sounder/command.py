@@ -48,6 +48,10 @@ class Parser(argparse.ArgumentParser):
     def _print_message(self, message, file=None):
         say(message.rstrip('\n'))
 
+    def error(self, message):
+        # Words that are not understood may have characters that a line cannot show.
+        super().error(message if message.isprintable() else message.encode('unicode_escape').decode('ascii'))
+
 
 class Progress:
     """How far a run is, on a terminal alone, in one line that is written anew."""
