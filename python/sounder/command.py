@@ -167,8 +167,9 @@ def run_calibrate(words):
     table = opened(library, 'table', words.table, TABLE_BYTES)
     bias = opened(library, 'bias', words.bias, BIAS_BYTES)
     records = archive.Archive(words.archives)
-    if words.part != (1, 1) and records.records() is None:
-        raise Failure('--part needs files: how long a pipe or device is is not known before')
+    for file in records.files:
+        if words.part != (1, 1) and file.size() is None:
+            raise Failure(f'{shown(file.name)}: --part needs files, and how long this is is not known before')
     if words.out != '-':
         page = pages.is_whole(words.out, version, table, bias, records.files, words.part)
         if page:
