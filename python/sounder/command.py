@@ -248,6 +248,9 @@ def run(arguments):
     """Runs the command and answers its status."""
     try:
         words = parser().parse_args(arguments)
+        # What argparse makes of --table=-- and the like.
+        if [] in vars(words).values():
+            raise Usage('-- ends the options: a file with this name is ./--')
         if words.version:
             print_out(f'sounder {version_words(Library().version())}\n')
             return 0
