@@ -159,8 +159,9 @@ def run_calibrate(words):
         raise Usage('records are not read from a terminal: name an archive')
     if words.out == '-' and os.isatty(1):
         raise Usage('products are not written to a terminal: name a file with -o OUT')
-    for name in (words.table, words.bias, *words.archives):
-        if words.out != '-' and (same_file(name, words.out) or same_file(name, words.out + '.json')):
+    files = [(name, name) for name in (words.table, words.bias)] + [(shown_input(name), 0 if name == '-' else name) for name in words.archives]
+    for name, file in files:
+        if words.out != '-' and (same_file(file, words.out) or same_file(file, words.out + '.json')):
             raise Failure(f'{shown(words.out)}: {shown(name)}, which is read, would be written')
     library = Library()
     version = version_words(library.version())
