@@ -3,6 +3,7 @@ import fcntl
 import os
 import re
 import signal
+import stat
 import time
 
 from .failure import Failure, failed, shown
@@ -72,6 +73,14 @@ def _made_beside(place):
     return name, descriptor
 
 
+def _can_be_named(place):
+    """Whether a result may get this name: there is nothing yet, or a file. A name that is too long is told before the first record."""
+    try:
+        return stat.S_ISREG(os.lstat(place).st_mode)
+    except FileNotFoundError:
+        return True
+
+
 def _locked(descriptor, how=fcntl.LOCK_EX):
     """Whether there is a lock now. A file system may have none."""
     try:
@@ -115,14 +124,14 @@ class Results:
     def __init__(self, name):
         self.given, self.written = name, 0
         self.products, self.page = os.path.realpath(name), os.path.realpath(name + '.json')
-        for place in (self.products, self.page):
-            if os.path.lexists(place) and not os.path.isfile(place):
-                raise Failure(f'{shown(place)}: there is something that is no file; it is left as it is')
         try:
+            for place in (self.products, self.page):
+                if not _can_be_named(place):
+                    raise Failure(f'{shown(place)}: there is something that is no file; it is left as it is')
             _remove_left_behind(os.path.dirname(self.products))
             self.own, self.descriptor = _made_beside(self.products)
         except OSError as failure:
-            raise Failure(f'{shown(name)}: no file can be made beside it: {failure.strerror}') from None
+            raise Failure(f'{shown(name)}: no file can be made there: {failure.strerror}') from None
 
     def write(self, view):
         try:
