@@ -18,7 +18,7 @@ from array import array
 from collections import Counter, namedtuple
 from itertools import groupby
 
-from .failure import Failure, failed, shown
+from .failure import Failure, failed, shown_input
 from .files import read_up_to
 from .library import PRODUCT_BYTES, RECORD_BYTES
 from .pipeline import Pipeline
@@ -41,7 +41,7 @@ class File:
 
     def __init__(self, name):
         self.name, self.read, self.sum, self.descriptor = name, 0, hashlib.sha256(), None
-        self.words = 'standard input' if name == '-' else shown(name)
+        self.words = shown_input(name)
         try:
             status = os.fstat(0) if name == '-' else os.stat(name)
             self.status = status if stat.S_ISREG(status.st_mode) else None

@@ -7,7 +7,7 @@ import sys
 import time
 
 from . import archive, pages
-from .failure import Failure, shown
+from .failure import Failure, shown, shown_input
 from .files import ENDING, Results, Stream, contents, drop_unfinished, same_file, write_all
 from .library import BIAS_BYTES, TABLE_BYTES, Library, Missing, Refusal, version_words
 

@@ -10,6 +10,11 @@ def shown(name):
     return name if name.isprintable() and name == name.strip() and name else repr(name)
 
 
+def shown_input(name):
+    """The same of a file of an archive, where - is standard input."""
+    return 'standard input' if name == '-' else shown(name)
+
+
 def failed(words, failure):
     """What a call of the system that failed says of what the words name."""
     return Failure(f'{words}: {failure.strerror or failure}')

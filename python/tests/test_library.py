@@ -17,6 +17,7 @@ from . import common
 from .common import PRODUCT, RECORD, ROOT, Case, contents, expected_of, gapped, sample, sum_of
 
 STATE = 12_576
+VERSION = contents(os.path.join(ROOT, 'VERSION')).decode().strip()
 # The bench thermometers: R_PAM, R0, alpha, delta, beta.
 BENCH = (2_000_000, 2_000_000, 3_850_000, 1_500_000, 0)
 BENCH_PRODUCT = '890d218f1c3b34ecc73994ec7d8c4c0f65d8fd15fa1d3ec1c3b8df3b961391b6'
@@ -25,27 +26,6 @@ BENCH_STATE = 'ac5b29f9f7f8cebc5a152d23c88abbbb2df80d00ae835064fff60b90158ac710'
 # Of the count behind a temperature after the bench scan: docs/RULES.md, section 20.
 COUNTS = {0: None, 11_165: None, 11_166: 10_000, 11_167: None, 11_276: None, 11_277: 10_001, 565_283: 14_999, 565_394: 15_000,
           565_395: None, 565_505: 15_001, 1_395_236: 22_500, 1_395_237: None, 16_777_216: None, 4_294_967_295: None}
-
-
-def ratio(t, alpha, delta, beta):
-    """F of docs/RULES.md, section 7."""
-    q = t * (t - 409_600)
-    s1 = delta * q // 160_000_000_000
-    h = (q // 10_000) * (t * t // 10_000) // 2**24
-    s2 = beta * h // 16_000_000 if t < 0 else 0
-    return 2**24 + alpha * (256 * t - s1 - s2) // 62_500_000
-
-
-def temperature(r_pam, r0, alpha, delta, beta, pam, offset, count):
-    """The answer of section 7, or None where there is no temperature."""
-    m = r_pam * (count - offset) * 2**24 // ((pam - offset) * r0)
-    low, high = -245_760, 245_760
-    if not ratio(low, alpha, delta, beta) <= m <= ratio(high, alpha, delta, beta):
-        return None
-    while low < high:
-        middle = (low + high + 1) // 2
-        low, high = (middle, high) if ratio(middle, alpha, delta, beta) <= m else (low, middle - 1)
-    return low
 
 
 class LibraryCase(unittest.TestCase):
@@ -99,8 +79,7 @@ class Known(LibraryCase):
             self.assertTrue(callable(getattr(self.library, name)), name)
 
     def test_version_and_state_size(self):
-        words = contents(os.path.join(ROOT, 'VERSION')).decode().strip()
-        self.assertEqual(library.version_words(self.library.version()), words)
+        self.assertEqual(library.version_words(self.library.version()), VERSION)
         self.assertEqual(self.library.state_size(), STATE)
 
     def test_open(self):
@@ -110,10 +89,11 @@ class Known(LibraryCase):
     def test_thermometer(self):
         for count, t in ((20_000, 0), (20_079, 4_140)):
             self.assertEqual(self.library.thermometer(*BENCH, 20_000, 0, count), t)
-        for words in ((*BENCH, 20_000, 0, 19_000), (*BENCH, 65_535, 1, 65_535), (4_000_000, 3_999_999, 5_000_000, 2_000_000, 500_000, 65_535, 7, 60_000),
-                      (1_000, 1_001, 3_000_000, 0, 0, 30_000, 20_000, 29_000), (2_000_000, 2_000_000, 3_908_300, 1_480_000, 110_000, 50_000, 100, 41_000)):
-            self.assertEqual(self.library.thermometer(*words), temperature(*words), words)
-            self.assertIsNotNone(temperature(*words))
+        # Each of the eight numbers has its own place.
+        for words, t in (((*BENCH, 20_000, 0, 19_000), -52_310), ((4_000_000, 3_999_999, 5_000_000, 2_000_000, 500_000, 65_535, 7, 60_000), -67_610),
+                         ((1_000, 1_001, 3_000_000, 0, 0, 30_000, 20_000, 29_000), -137_761),
+                         ((2_000_000, 2_000_000, 3_908_300, 1_480_000, 110_000, 50_000, 100, 41_000), -184_989)):
+            self.assertEqual(self.library.thermometer(*words), t, words)
 
     def test_feed_all(self):
         answers, product = self.fed(self.scan)
@@ -414,10 +394,11 @@ class Missed(Case):
 
     def test_another_version(self):
         for number, words in ((50_909, '5.9.9'), (70_000, '7.0.0'), (0, '0.0.0'), (4_294_967_295, '429496.72.95')):
-            self.missed(self.built(f'unsigned sounder_version(void) {{ return {number}u; }}'), f'is version {words}', 'needs 6.0.0')
-        with mock.patch.object(library, 'VERSION_NUMBER', 60_100), self.assertRaises(Missing) as raised:
+            self.missed(self.built(f'unsigned sounder_version(void) {{ return {number}u; }}'), f'is version {words}', f'needs {VERSION}')
+        later = library.VERSION_NUMBER + 1
+        with mock.patch.object(library, 'VERSION_NUMBER', later), self.assertRaises(Missing) as raised:
             Library()
-        self.assertIn('is version 6.0.0, and this package needs 6.1.0', str(raised.exception))
+        self.assertIn(f'is version {VERSION}, and this package needs {library.version_words(later)}', str(raised.exception))
 
     def test_a_later_version_serves(self):
         folder = os.path.join(ROOT, 'target', 'lib')
@@ -434,4 +415,4 @@ class Missed(Case):
         self.assertTrue(ran.lines[0].startswith('sounder: '), ran)
         self.assertIn('nowhere.so', ran.lines[0])
         ran = common.sounder('--version', env={**os.environ, 'SOUNDER_LIBRARY': ''})
-        self.assertEqual((ran.status, ran.output), (0, b'sounder 6.0.0\n'))
+        self.assertEqual((ran.status, ran.output), (0, f'sounder {VERSION}\n'.encode()))
