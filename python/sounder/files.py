@@ -157,11 +157,11 @@ class Results:
 
     def _named(self, own_page):
         """Meanwhile no other run names its results in this folder, and no signal ends this one. The page of an earlier run goes first."""
-        before = signal.pthread_sigmask(signal.SIG_BLOCK, ENDING)
         lock = os.open(os.path.dirname(self.products), os.O_RDONLY | os.O_DIRECTORY | os.O_CLOEXEC)
+        # Without a lock the sums in a page still tell whether the products are its own.
+        _locked(lock)
+        before = signal.pthread_sigmask(signal.SIG_BLOCK, ENDING)
         try:
-            # Without a lock the sums in a page still tell whether the products are its own.
-            _locked(lock)
             if os.path.lexists(self.page):
                 os.unlink(self.page)
             for own, place in ((self.own, self.products), (own_page, self.page)):
