@@ -1,6 +1,9 @@
 """Pieces of work that are done on several threads at once and taken in order."""
+import signal
 import threading
 from queue import LifoQueue, SimpleQueue
+
+from .files import ENDING
 
 
 class Pipeline:
@@ -18,8 +21,13 @@ class Pipeline:
             self.free.put(slot)
         loops = [(self._work,)] * jobs
         loops += [(self._take, *stage) for stage in zip(takers, self.orders, self.orders[1:] + [self.free])]
-        for loop in loops:
-            threading.Thread(target=self._guarded, args=loop, daemon=True).start()
+        # A signal that another thread took would not wake the one that waits for records: the threads begin with what is blocked here.
+        before = signal.pthread_sigmask(signal.SIG_BLOCK, ENDING)
+        try:
+            for loop in loops:
+                threading.Thread(target=self._guarded, args=loop, daemon=True).start()
+        finally:
+            signal.pthread_sigmask(signal.SIG_SETMASK, before)
 
     def slot(self):
         """Waits for a free slot."""
