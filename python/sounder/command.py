@@ -219,11 +219,13 @@ def hold_streams():
 
 
 def end_at_signals():
-    """A signal that ends the run is told; one that is ignored, as under nohup, stays so."""
+    """The first signal that ends the run is told; one that is ignored, as under nohup, stays so."""
+    came = []
+
     def end(number, frame):
-        for other in ENDING:
-            signal.signal(other, signal.SIG_IGN)
-        raise Ended(number)
+        if not came:
+            came.append(number)
+            raise Ended(number)
     for number in ENDING:
         if signal.getsignal(number) != signal.SIG_IGN:
             signal.signal(number, end)
@@ -233,16 +235,21 @@ def main(arguments=None):
     hold_streams()
     end_at_signals()
     try:
-        return run(arguments)
+        try:
+            return run(arguments)
+        finally:
+            drop_unfinished()
+            # A signal that comes now finds the run ended, with its status.
+            signal.pthread_sigmask(signal.SIG_BLOCK, ENDING)
     except Ended as ended:
         drop_unfinished()
-        for number in ENDING:
-            signal.signal(number, signal.SIG_DFL)
+        # Standard error that nobody reads does not keep the run.
+        signal.alarm(2)
         say(f'sounder: ended by {signal.Signals(ended.number).name}')
+        signal.signal(ended.number, signal.SIG_DFL)
+        signal.pthread_sigmask(signal.SIG_UNBLOCK, ENDING)
         os.kill(os.getpid(), ended.number)
         return 1
-    finally:
-        drop_unfinished()
 
 
 def run(arguments):
