@@ -1,5 +1,6 @@
 """What the tests have in common: tables, bias files and archives, what one run over all records gives, and runs of the command."""
 import contextlib
+import fcntl
 import functools
 import hashlib
 import json
