@@ -409,11 +409,16 @@ class Names(Case):
                 for words in ((*given, '-o', 'out', './' + name + '/x'), ('calibrate', '--table=./nowhere' + name, '--bias=' + bias),
                               ('calibrate', '--table=' + table, '--bias=./nowhere' + name), (*given, '-o', f'./{table}', '--', scans),
                               (*given, '-o', f'./{name}/out', '--', scans), ('join', '-o', 'out', parts[1]),
-                              ('join', '-o', 'out', './nowhere' + name), ('join', '-o', parts[0], *parts),
-                              ('calibrate', '--table=' + bias, '--bias=' + bias)):
+                              ('join', '-o', 'out', './nowhere' + name), ('join', '-o', parts[0], *parts)):
                     status, said = common.here(*words, **here)
                     self.assertEqual(status, 1, (words, said))
                     self.one_line(said, 'sounder: ')
+                # Of a refused table the lines behind the first say what is wrong.
+                status, said = common.here('calibrate', '--table=' + bias, '--bias=' + bias, **here)
+                line, *further = said[0].split('\n')
+                self.assertEqual((status, len(said)), (1, 1), said)
+                self.one_line([line], 'sounder: ')
+                self.assertEqual(further, ['  the length is at least 1,405 bytes, and must be 1,404'])
                 common.shutil.rmtree(self.at('names'))
 
     def test_as_a_command(self):
