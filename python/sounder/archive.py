@@ -23,8 +23,9 @@ from .files import read_up_to
 from .library import PRODUCT_BYTES, RECORD_BYTES
 from .pipeline import Pipeline
 
-# Records in one call: enough that those from before it, fed once more, cost little, and few enough that a piece stays small.
-PIECE = 256
+# Records in one call, at the most: enough that those from before it, fed once more, cost little, and few enough that a piece stays small.
+PIECE = 512
+SMALL_PIECE = 64
 # How many numbers a piece reaches back: the last accepted number and the six before it.
 NUMBERS = 7
 READ = os.O_RDONLY | os.O_CLOEXEC
@@ -123,21 +124,19 @@ class Piece:
         self.lengths = array('I', [RECORD_BYTES] * (NUMBERS + PIECE))
         self.rooms = array('I', [PRODUCT_BYTES] * (NUMBERS + PIECE))
 
-    def begin(self, file, place, before):
-        """Takes the records from before, those that `place`, the first own record of the piece in the archive, needs."""
-        self.file, self.place, self.first, self.before = file, place, file.records(), before
-        at = NUMBERS - len(before)
-        for record in before:
-            self.bytes[at * RECORD_BYTES:(at + 1) * RECORD_BYTES] = record.content
-            at += 1
-
-    def fill(self, records):
-        """Reads at most so many own records, and answers whether there is one."""
-        have = self.file.fill(self.own[:records * RECORD_BYTES])
+    def fill(self, file, place, records):
+        """Reads at most so many own records, the first of which has this place in the archive, and answers whether there is one."""
+        self.file, self.place, self.first = file, place, file.records()
+        have = file.fill(self.own[:records * RECORD_BYTES])
         self.count, rest = -(-have // RECORD_BYTES), have % RECORD_BYTES
-        self.all = len(self.before) + self.count
         self.last_length = rest or RECORD_BYTES
         return self.count > 0
+
+    def follow(self, before):
+        """Puts the records in front that the own ones need from before the piece."""
+        self.before, self.all = before, len(before) + self.count
+        for at, record in enumerate(before):
+            self.bytes[self.offset(at):self.offset(at + 1)] = record.content
 
     def call(self, library, table, bias, buffers, rooms):
         """Feeds the records of the piece with these rooms for products; answers the answers."""
@@ -289,11 +288,34 @@ def bounds(part, records):
     return records * (number - 1) // of, records * number // of
 
 
+def size_of_next(place, left, jobs):
+    """How many records the next piece has: few at the beginning and at the end, so that no thread waits long for its first piece, nor for
+    the last of another."""
+    return int(min(PIECE, left, max(SMALL_PIECE, min(place, left // (4 * jobs)))))
+
+
+def read_pieces(archive, low, high, jobs, pipeline):
+    """Reads the archive into free slots, piece by piece. No piece reaches over the beginning of the part or its end."""
+    place, records = 0, archive.records()
+    ends = (low, high, float('inf') if records is None else records)
+    for file in archive.files:
+        file.open()
+        while True:
+            piece = pipeline.slot()
+            left = next((end for end in ends if place < end), place + 1) - place
+            if not piece.fill(file, place, size_of_next(place, left, jobs)):
+                pipeline.give_back(piece)
+                break
+            place += piece.count
+            yield piece
+        file.close()
+
+
 def calibrate(calibration, archive, part, jobs, write, show):
     """Calibrates one part of an archive, writes its products in order, and answers what became of its records. `show` is told how many
     records were read."""
     low, high = bounds(part, archive.records()) if part != (1, 1) else (0, float('inf'))
-    tally = Tally(archive.files)
+    tally, before = Tally(archive.files), []
 
     def take(piece):
         tally.take(piece)
@@ -306,26 +328,17 @@ def calibrate(calibration, archive, part, jobs, write, show):
 
     pipeline = Pipeline([Piece() for _ in range(jobs + 3)], calibration.feed, [take, keep], jobs)
     try:
-        place, before = 0, []
-        for file in archive.files:
-            file.open()
-            while True:
-                if place == low and tally.began is None:
-                    tally.begin(calibration.accepted(before))
-                piece = pipeline.slot()
-                piece.begin(file, place, before)
-                if not piece.fill(min(PIECE, (low if place < low else high if place < high else float('inf')) - place)):
-                    pipeline.free.put(piece)
-                    break
-                place += piece.count
-                if piece.place < high:
-                    before = calibration.before_next(piece)
-                if low <= piece.place < high:
-                    pipeline.put(piece)
-                else:
-                    pipeline.free.put(piece)
-                show(place)
-            file.close()
+        for piece in read_pieces(archive, low, high, jobs, pipeline):
+            if piece.place == low:
+                tally.begin(calibration.accepted(before))
+            piece.follow(before)
+            if piece.place < high:
+                before = calibration.before_next(piece)
+            if low <= piece.place < high:
+                pipeline.put(piece)
+            else:
+                pipeline.give_back(piece)
+            show(piece.place + piece.count)
         if tally.began is None:
             tally.begin(calibration.accepted(before))
         pipeline.end()

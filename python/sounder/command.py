@@ -39,6 +39,17 @@ def print_out(text):
         raise Failure(f'standard output: {failure.strerror}') from None
 
 
+class Help(argparse.HelpFormatter):
+    """Asks for the width of the terminal without what the parser would import for it."""
+
+    def __init__(self, prog):
+        try:
+            width = os.get_terminal_size(1).columns
+        except OSError:
+            width = 80
+        super().__init__(prog, width=width - 2)
+
+
 class Parser(argparse.ArgumentParser):
     """Help that cannot be written is a failure, and messages go where those of a run go."""
 
@@ -94,13 +105,13 @@ def jobs(text):
 
 
 def added(commands, run, name, help, description):
-    command = commands.add_parser(name, help=help, description=description, epilog=STATUS, allow_abbrev=False)
+    command = commands.add_parser(name, help=help, description=description, epilog=STATUS, allow_abbrev=False, formatter_class=Help)
     command.set_defaults(run=run)
     return command
 
 
 def parser():
-    main = Parser(prog='sounder', description=DESCRIPTION, epilog=STATUS, allow_abbrev=False)
+    main = Parser(prog='sounder', description=DESCRIPTION, epilog=STATUS, allow_abbrev=False, formatter_class=Help)
     main.add_argument('--version', action='store_true', help='print the version of the library')
     commands = main.add_subparsers(dest='command', metavar='COMMAND', title='commands', prog='sounder')
 

@@ -41,6 +41,10 @@ class Pipeline:
         self.orders[0].put(slot)
         self.todo.put(slot)
 
+    def give_back(self, slot):
+        """Of a slot that is not put."""
+        self.free.put(slot)
+
     def end(self):
         """Waits until every slot was taken, and ends the threads."""
         for _ in self.slots:

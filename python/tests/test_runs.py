@@ -15,8 +15,10 @@ SLOW = changed_command(SLOW_NAMES)
 class RunCase(Case):
     def fed(self, *words, content=b'', **options):
         """Starts a run that reads the pipe `fifo`; answers it and the pipe, when the run has begun to read and content is written."""
-        if not os.path.exists(self.at('fifo')):
-            os.mkfifo(self.at('fifo'))
+        # A new one each time: what a run before has left unread would come first.
+        if os.path.exists(self.at('fifo')):
+            os.remove(self.at('fifo'))
+        os.mkfifo(self.at('fifo'))
         process = self.start(*words, **options)
         fifo = open(self.at('fifo'), 'wb', buffering=0)
         self.addCleanup(fifo.close)
