@@ -123,8 +123,8 @@ class Results:
 
     def __init__(self, name):
         self.given, self.written = name, 0
-        self.products, self.page = os.path.realpath(name), os.path.realpath(name + '.json')
         try:
+            self.products, self.page = os.path.realpath(name), os.path.realpath(name + '.json')
             for place in (self.products, self.page):
                 if not _can_be_named(place):
                     raise Failure(f'{shown(place)}: there is something that is no file; it is left as it is')
