@@ -3,6 +3,7 @@ import signal
 import threading
 from queue import LifoQueue, SimpleQueue
 
+from .failure import Failure
 from .files import ENDING
 
 
@@ -26,6 +27,8 @@ class Pipeline:
         try:
             for loop in loops:
                 threading.Thread(target=self._guarded, args=loop, daemon=True).start()
+        except RuntimeError:
+            raise Failure(f'the system has no room for {len(loops)} threads: take fewer with --jobs') from None
         finally:
             signal.pthread_sigmask(signal.SIG_SETMASK, before)
 
