@@ -78,7 +78,7 @@ class Progress:
 
     def line(self, words):
         try:
-            os.write(2, f'\r{words:{self.width}}'.encode())
+            os.write(2, ('\r' + words.ljust(self.width)).encode())
             self.width = len(words)
         except OSError:
             self.shows = False
