@@ -3,7 +3,6 @@ import argparse
 import os
 import re
 import signal
-import sys
 import time
 
 from . import archive, pages
@@ -170,7 +169,8 @@ def run_calibrate(words):
         raise Usage('records are not read from a terminal: name an archive')
     if words.out == '-' and os.isatty(1):
         raise Usage('products are not written to a terminal: name a file with -o OUT')
-    files = [(name, name) for name in (words.table, words.bias)] + [(shown_input(name), 0 if name == '-' else name) for name in words.archives]
+    files = [(name, name) for name in (words.table, words.bias)]
+    files += [(shown_input(name), 0 if name == '-' else name) for name in words.archives]
     for name, file in files:
         if words.out != '-' and (same_file(file, words.out) or same_file(file, words.out + '.json')):
             raise Failure(f'{shown(words.out)}: {shown(name)}, which is read, would be written')

@@ -100,8 +100,8 @@ def _load():
     loaded.sounder_version.restype = ctypes.c_uint32
     found = loaded.sounder_version()
     if found // 10000 != VERSION_NUMBER // 10000 or found < VERSION_NUMBER:
-        raise Missing(f'{shown(place)} is version {version_words(found)}, and this package needs {version_words(VERSION_NUMBER)} or a later '
-                      f'one with the same first number')
+        raise Missing(f'{shown(place)} is version {version_words(found)}, and this package needs {version_words(VERSION_NUMBER)} or a '
+                      f'later one with the same first number')
     for name in FUNCTIONS:
         if not hasattr(loaded, name):
             raise Missing(f'{shown(place)} is not the library of the sounder calibrator: it has no {name}')
