@@ -1,6 +1,5 @@
 """What the tests have in common: tables, bias files and archives, what one run over all records gives, and runs of the command."""
 import contextlib
-import fcntl
 import functools
 import hashlib
 import json
@@ -182,9 +181,11 @@ class Expected:
         }
 
     def counts(self):
+        """The line of counts."""
         refused = [answer for answer in self.answers if answer]
         by_number = ', '.join(f'{refused.count(answer)} with {answer}' for answer in sorted(set(refused)))
-        return (f'records {len(self.answers)} products {self.answers.count(0)} refused {len(refused)}' + (f': {by_number}' if refused else ''))
+        counted = f'records {len(self.answers)} products {self.answers.count(0)} refused {len(refused)}'
+        return f'{counted}: {by_number}' if refused else counted
 
 
 def one_run(table_bytes, bias_bytes, records):
@@ -221,12 +222,12 @@ class Ran:
         return f'status {self.status}, {len(self.output or b"")} bytes of output, {self.errors}'
 
 
-def sounder(*words, **options):
+def sounder(*words, program=COMMAND, **options):
     """Runs the command."""
     given = {'stdin': subprocess.DEVNULL, 'stdout': subprocess.PIPE, 'stderr': subprocess.PIPE, 'timeout': PATIENCE, **options}
     if 'input' in given:
         del given['stdin']
-    ran = subprocess.run([*COMMAND, *words], **given)
+    ran = subprocess.run([*program, *words], **given)
     return Ran(ran.returncode, ran.stdout, ran.stderr)
 
 
@@ -240,6 +241,12 @@ def ended(process):
     """Waits for a run to end."""
     output, errors = process.communicate(timeout=PATIENCE)
     return Ran(process.returncode, output, errors)
+
+
+def prepared(lines):
+    """The command as a process that first runs these lines of Python, which close streams or set limits and signals."""
+    return [sys.executable, '-ISc', 'import os, resource, signal, sys\nfor number in (signal.SIGPIPE, signal.SIGXFSZ):\n'
+            f'    signal.signal(number, signal.SIG_DFL)\n{lines}\nos.execv(sys.argv[1], sys.argv[1:])', *COMMAND]
 
 
 def changed_command(change):

@@ -1,7 +1,6 @@
 """Archives in pieces and in parts: the products, refusals and pages of one run."""
 import os
 import random
-import resource
 
 from . import common
 from .common import PRODUCT, RECORD, Case, Expected, drawn, expected_of, gapped, one_run, plain, record, sample, sum_of
@@ -107,7 +106,8 @@ class Pieces(Case):
 
     def test_a_wrong_tag_hides_a_number(self):
         """The number of a record with a wrong tag counts for nothing, also at the end of a piece."""
-        made = [record(number, at, wrong_tag=at % 7 == 6) for at, number in enumerate([1, 2, 3, 4, 5, 6, 900, 7, 8, 9, 10, 11, 12, 901, 13, 14])]
+        numbers = [1, 2, 3, 4, 5, 6, 900, 7, 8, 9, 10, 11, 12, 901, 13, 14]
+        made = [record(number, at, wrong_tag=at % 7 == 6) for at, number in enumerate(numbers)]
         self.assertEqual(self.all_sizes(b''.join(made)).answers, [5 if at % 7 == 6 else 0 for at in range(16)])
 
     def test_drawn_archives(self):
@@ -200,7 +200,8 @@ class Streams(Case):
 
     def test_more_files_than_can_be_open(self):
         names = [self.put(f'scan-{number}', record(number)) for number in range(1, 101)]
-        ran = self.sounder(*common.WORDS, '-o', 'out', *names, preexec_fn=lambda: resource.setrlimit(resource.RLIMIT_NOFILE, (40, 40)))
+        few = common.prepared('resource.setrlimit(resource.RLIMIT_NOFILE, (40, 40))')
+        ran = self.sounder(*common.WORDS, '-o', 'out', *names, program=few)
         self.assertEqual(ran.status, 0, ran)
         self.assert_whole('out', expected_of(*(record(number) for number in range(1, 101))), names)
 
@@ -253,7 +254,8 @@ class Large(Case):
             if place > begin:
                 ranges.append({'file': 0, 'first': begin, 'last': place - 1, 'offset': begin * RECORD, 'number': 5})
             begin = place + 1
-        self.assertEqual(page['refused'], ranges + [{'file': 0, 'first': 462_605, 'last': 462_605, 'offset': 462_605 * RECORD, 'number': 4}])
+        rest = {'file': 0, 'first': 462_605, 'last': 462_605, 'offset': 462_605 * RECORD, 'number': 4}
+        self.assertEqual(page['refused'], ranges + [rest])
         self.assertEqual((page['records'], page['products']['number']), (462_606, len(places)))
         self.assertEqual(page['archive'][0]['bytes'], 462_605 * RECORD + 17)
         self.assertLess(used.ru_maxrss, 200_000, 'so many kilobytes of memory')

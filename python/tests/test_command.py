@@ -4,8 +4,10 @@ import os
 import pty
 import re
 import select
+import shutil
 import subprocess
 import time
+from unittest import mock
 
 from sounder import library
 
@@ -18,8 +20,8 @@ NAMES = ('a b', "it's $(x) \"y\" *", 'a\nsounder: out: records 1 products 1 refu
 
 
 def closed(*streams):
-    """What a child does before it begins: it closes streams."""
-    return lambda: [os.close(stream) for stream in streams]
+    """The command with streams that are closed."""
+    return common.prepared('\n'.join(f'os.close({stream})' for stream in streams))
 
 
 def ended_pipe():
@@ -61,7 +63,8 @@ class Usage(Case):
                 self.wrong('is not a number from 1 to 1024', *common.WORDS, f'--jobs={word}', '-o', 'out', 'scans.bin')
 
     def test_part(self):
-        for word in ('0/1', '2/1', '1/0', '0/0', '1', '/', '1/', '/1', 'a/b', '1/2/3', '-1/2', '1/ 2', '', '1/1000000000', '1.0/2', '1\\2', '1/2\n'):
+        for word in ('0/1', '2/1', '1/0', '0/0', '1', '/', '1/', '/1', 'a/b', '1/2/3', '-1/2', '1/ 2', '', '1/1000000000', '1.0/2', '1\\2',
+                     '1/2\n'):
             with self.subTest(word=word):
                 self.wrong('is not K/N with K from 1 to N', *common.WORDS, f'--part={word}', '-o', 'out', 'scans.bin')
 
@@ -79,7 +82,8 @@ class Usage(Case):
 
     def test_as_a_command(self):
         """The same from the shell, with what is said on standard error."""
-        for words in ((), ('calibrat',), (*common.WORDS, '--jobs', '0', '-o', 'out', 'scans.bin'), (*common.WORDS, '--part', '1/2', '-o', 'out')):
+        for words in ((), ('calibrat',), (*common.WORDS, '--jobs', '0', '-o', 'out', 'scans.bin'),
+                      (*common.WORDS, '--part', '1/2', '-o', 'out')):
             with self.unchanged():
                 ran = self.sounder(*words)
             self.assertEqual((ran.status, ran.output), (2, b''), ran)
@@ -95,7 +99,8 @@ class Usage(Case):
 
 class Help(Case):
     def test_help(self):
-        for words, named in (((), ('calibrate', 'join', 'check')), (('calibrate',), ('--table', '--bias', '--jobs', '--part', '-o', 'ARCHIVE')),
+        for words, named in (((), ('calibrate', 'join', 'check')),
+                             (('calibrate',), ('--table', '--bias', '--jobs', '--part', '-o', 'ARCHIVE')),
                              (('join',), ('PART', '-o')), (('check',), ('TABLE', 'BIAS'))):
             for help_word in ('--help', '-h'):
                 ran = self.sounder(*words, help_word)
@@ -112,7 +117,7 @@ class Help(Case):
 
     def test_what_cannot_be_written(self):
         for word in ('--help', '--version'):
-            for streams in ({'stdout': open('/dev/full', 'wb')}, {'stdout': ended_pipe()}, {'preexec_fn': closed(1)}):
+            for streams in ({'stdout': open('/dev/full', 'wb')}, {'stdout': ended_pipe()}, {'program': closed(1)}):
                 ran = self.sounder(word, **streams)
                 self.assertEqual((ran.status, len(ran.lines)), (1, 1), ran)
                 self.assertTrue(ran.lines[0].startswith('sounder: standard output: '), ran)
@@ -145,32 +150,33 @@ class Streams(Case):
         self.expected = expected_of(gapped())
         self.full = open('/dev/full', 'r+b', buffering=0)
         self.addCleanup(self.full.close)
-        self.ended = ended_pipe()
-        self.addCleanup(os.close, self.ended)
+        self.ended, self.unwritable = ended_pipe(), os.open('/dev/null', os.O_RDONLY)
+        for stream in (self.ended, self.unwritable):
+            self.addCleanup(os.close, stream)
 
     def test_with_a_file(self):
-        for streams in ({}, {'stdout': self.full}, {'stdout': self.ended}, {'preexec_fn': closed(1)}, {'stderr': self.full},
-                        {'stderr': self.ended}, {'preexec_fn': closed(2)}, {'preexec_fn': closed(0)}, {'preexec_fn': closed(0, 1, 2)},
-                        {'preexec_fn': closed(1, 2)}, {'preexec_fn': closed(0, 2)}):
+        for streams in ({}, {'stdout': self.full}, {'stdout': self.ended}, {'program': closed(1)}, {'stderr': self.full},
+                        {'stderr': self.ended}, {'program': closed(2)}, {'program': closed(0)}, {'program': closed(0, 1, 2)},
+                        {'program': closed(1, 2)}, {'program': closed(0, 2)}):
             with self.subTest(streams=streams):
                 ran = self.sounder(*common.WORDS, '-o', 'out', 'scans.bin', **streams)
                 self.assertEqual(ran.status, 0, ran)
                 self.assertFalse(ran.output)
                 self.assert_whole('out', self.expected, ['scans.bin'])
-                if 'stderr' not in streams and streams.get('preexec_fn') is None:
+                if 'stderr' not in streams and 'program' not in streams:
                     self.assertEqual(ran.lines, [f'out: {self.expected.counts()}'])
                 for name in ('out', 'out.json'):
                     os.remove(self.at(name))
 
     def test_with_standard_output(self):
-        for streams in ({'stderr': self.full}, {'stderr': self.ended}, {'preexec_fn': closed(2)}, {'preexec_fn': closed(0)}):
+        for streams in ({'stderr': self.full}, {'stderr': self.ended}, {'program': closed(2)}, {'program': closed(0)}):
             with self.subTest(streams=streams):
                 ran = self.sounder(*common.WORDS, 'scans.bin', **streams)
                 self.assertEqual((ran.status, ran.output == self.expected.products), (0, True), ran)
 
     def test_standard_output_that_cannot_be_written(self):
         for streams, words in (({'stdout': self.full}, 'No space left'), ({'stdout': self.ended}, 'Broken pipe'),
-                               ({'preexec_fn': closed(1)}, 'Bad file descriptor'), ({'stdout': os.open('/dev/null', os.O_RDONLY)}, 'Bad file')):
+                               ({'program': closed(1)}, 'Bad file descriptor'), ({'stdout': self.unwritable}, 'Bad file descriptor')):
             with self.subTest(streams=streams), self.unchanged():
                 ran = self.sounder(*common.WORDS, 'scans.bin', **streams)
                 self.assertEqual((ran.status, len(ran.lines)), (1, 1), ran)
@@ -193,7 +199,7 @@ class Streams(Case):
         self.addCleanup(os.close, folder)
         null = os.open('/dev/null', os.O_WRONLY)
         self.addCleanup(os.close, null)
-        for streams in ({'preexec_fn': closed(0)}, {'stdin': folder}, {'stdin': null}, {'preexec_fn': closed(0, 1)}):
+        for streams in ({'program': closed(0)}, {'stdin': folder}, {'stdin': null}, {'program': closed(0, 1)}):
             for out in (('-o', 'out'), ()):
                 with self.subTest(streams=streams, out=out), self.unchanged():
                     ran = self.sounder(*common.WORDS, *out, **streams)
@@ -205,7 +211,7 @@ class Streams(Case):
 
     def test_failures_that_cannot_be_told(self):
         """The status says it all the same."""
-        for streams in ({'stderr': self.full}, {'stderr': self.ended}, {'preexec_fn': closed(2)}, {'preexec_fn': closed(1, 2)}):
+        for streams in ({'stderr': self.full}, {'stderr': self.ended}, {'program': closed(2)}, {'program': closed(1, 2)}):
             with self.subTest(streams=streams), self.unchanged():
                 self.assertEqual(self.sounder(*common.WORDS, '-o', 'out', 'nowhere', **streams).status, 1)
                 self.assertEqual(self.sounder(*common.WORDS, '--jobs', '0', **streams).status, 2)
@@ -280,8 +286,8 @@ class Archives(Case):
 
     def test_missing(self):
         self.put('scans.bin', gapped())
-        for name, words in (('nowhere', 'No such file'), ('scans.bin/x', 'Not a directory'), ('', 'No such file'), ('x' * 300, 'File name too long'),
-                            ('.', 'Is a directory')):
+        for name, words in (('nowhere', 'No such file'), ('scans.bin/x', 'Not a directory'), ('', 'No such file'),
+                            ('x' * 300, 'File name too long'), ('.', 'Is a directory')):
             with self.unchanged():
                 status, said = self.here(*common.WORDS, '-o', 'out', 'scans.bin', name)
             self.assertEqual((status, len(said)), (1, 1), said)
@@ -340,9 +346,9 @@ class Terminal(Case):
         os.mkfifo(self.at('fifo'))
         process = self.start(*common.WORDS, '-o', 'out', 'scans.bin', 'scans.bin')
         self.assertEqual(common.ended(process).lines, ['out: records 6 products 3 refused 3: 3 with 6'])
-        with common.mock.patch.object(common.command.os, 'isatty', lambda descriptor: True), \
-                common.mock.patch.object(common.command.Progress, 'line', autospec=True) as line, \
-                common.mock.patch.object(common.command.time, 'monotonic', iter(range(1_000)).__next__):
+        with mock.patch.object(common.command.os, 'isatty', lambda descriptor: True), \
+                mock.patch.object(common.command.Progress, 'line', autospec=True) as line, \
+                mock.patch.object(common.command.time, 'monotonic', iter(range(1_000)).__next__):
             status, said = self.here(*common.WORDS, '-o', 'other', 'scans.bin', piece=1)
         self.assertEqual((status, said), (0, ['other: records 3 products 3 refused 0']))
         self.assertEqual([call.args[1] for call in line.call_args_list if call.args[1]], [f'{count} of 3 records' for count in (1, 2, 3)])
@@ -419,7 +425,7 @@ class Names(Case):
                 self.assertEqual((status, len(said)), (1, 1), said)
                 self.one_line([line], 'sounder: ')
                 self.assertEqual(further, ['  the length is at least 1,405 bytes, and must be 1,404'])
-                common.shutil.rmtree(self.at('names'))
+                shutil.rmtree(self.at('names'))
 
     def test_as_a_command(self):
         """The same through the words of a command, where bytes that are no text come in."""

@@ -1,15 +1,23 @@
 """Where results may stand, and what is left where they cannot be written: nothing."""
+import json
 import os
-import resource
 import stat
 import subprocess
+import threading
 import unittest
+from unittest import mock
 
 from . import common
 from .common import COMMAND, PRODUCT, Case, expected_of, gapped, plain
 
 # A shell script that mounts a small file system where only it sees it, runs a command, and then lists what is there.
-MOUNTED = 'mount -t tmpfs -o "$1" none "$2" || exit 77; listed=$3; folder=$2; shift 3; "$@"; status=$?; ls -A "$folder" >"$listed"; exit $status'
+MOUNTED = '''mount -t tmpfs -o "$1" none "$2" || exit 77
+folder=$2 listed=$3
+shift 3
+"$@"
+status=$?
+ls -A "$folder" >"$listed"
+exit $status'''
 
 
 class PlaceCase(Case):
@@ -31,7 +39,7 @@ class PlaceCase(Case):
         status, said = self.here(*common.WORDS, '-o', out, 'scans.bin')
         self.assertEqual(status, 0, said)
         self.assertEqual(self.contents(real or out), self.expected.products)
-        self.assertEqual(common.json.loads(self.contents(page or out + '.json')), self.expected.page(['scans.bin']))
+        self.assertEqual(json.loads(self.contents(page or out + '.json')), self.expected.page(['scans.bin']))
         self.assertEqual(self.unfinished(), [])
 
 
@@ -58,7 +66,7 @@ class Places(PlaceCase):
         self.refused('fifo', 'left as it is')
         self.refused('out', 'left as it is')
         # Also where a page says that a pipe has nothing.
-        self.put('fifo.json', common.json.dumps(expected_of(b'').page(['empty.bin'])).encode())
+        self.put('fifo.json', json.dumps(expected_of(b'').page(['empty.bin'])).encode())
         self.put('empty.bin', b'')
         self.refused('fifo', 'left as it is', 'empty.bin')
 
@@ -117,6 +125,14 @@ class Places(PlaceCase):
             self.made('out')
             self.assertEqual(before.read(), b'before')
 
+    def test_a_folder_that_is_gone(self):
+        """A run in a folder that was removed: its results have no place."""
+        os.mkdir(self.at('gone'))
+        script = 'cd "$1" && rmdir "$1" && shift && exec "$@"'
+        words = ('calibrate', '--table', self.at('table.bin'), '--bias', self.at('bias.bin'), '-o', 'out', self.at('scans.bin'))
+        ran = subprocess.run(['sh', '-c', script, 'sh', self.at('gone'), *COMMAND, *words], stderr=subprocess.PIPE, timeout=common.PATIENCE)
+        self.assertEqual((ran.returncode, ran.stderr), (1, b'sounder: out: no file can be made there: No such file or directory\n'))
+
     def test_rights(self):
         """Results have the rights that new files have."""
         before = os.umask(0o027)
@@ -124,6 +140,70 @@ class Places(PlaceCase):
         self.made('out')
         for name in ('out', 'out.json'):
             self.assertEqual(stat.S_IMODE(os.stat(self.at(name)).st_mode), 0o640)
+
+
+class Disk(PlaceCase):
+    """Results are on the disk before they have their names."""
+
+    def events(self, *words):
+        """What a run brings to the disk and names, in order: the kind, and of a file its inode and size."""
+        found = []
+
+        def synced(descriptor, call=os.fsync):
+            status = os.fstat(descriptor)
+            found.append(('folder',) if stat.S_ISDIR(status.st_mode) else ('synced', status.st_ino, status.st_size))
+            return call(descriptor)
+
+        def named(source, place, call=os.rename):
+            status = os.stat(source)
+            page = os.path.lexists(self.at('out.json'))
+            found.append(('named', os.path.basename(place), status.st_ino, status.st_size, page))
+            return call(source, place)
+        with mock.patch('os.fsync', synced), mock.patch('os.fdatasync', synced), mock.patch('os.rename', named), \
+                mock.patch('os.replace', named):
+            status, said = self.here(*words)
+        self.assertEqual(status, 0, said)
+        return found
+
+    def ordered(self, *words):
+        found = self.events(*words)
+        names = [event for event in found if event[0] == 'named']
+        self.assertEqual([event[1] for event in names], ['out', 'out.json'], 'the products have their name first')
+        self.assertEqual([event[4] for event in names], [False, False], 'an older page stands beside newer products')
+        for event in names:
+            self.assertIn(('synced', *event[2:4]), found[:found.index(names[0])], 'all is on the disk before the first name')
+            self.assertEqual(found[found.index(event) + 1], ('folder',), 'a name is on the disk before the next one')
+        self.assertEqual([os.stat(self.at(name)).st_ino for name in ('out', 'out.json')], [event[2] for event in names])
+
+    def test_order(self):
+        self.ordered(*common.WORDS, '-o', 'out', 'scans.bin')
+        # With results of before.
+        self.put('scans.bin', plain(8))
+        self.ordered(*common.WORDS, '-o', 'out', 'scans.bin')
+        self.assertEqual(self.here(*common.WORDS, '-o', 'part', 'scans.bin')[0], 0)
+        os.remove(self.at('out'))
+        self.ordered('join', '-o', 'out', 'part')
+
+    def test_failures(self):
+        """A disk that fails when all is to be brought to it: status 1, nothing new, and what was there before is whole or has no page."""
+        before = expected_of(plain(8))
+        self.put('other.bin', plain(8))
+        for name, at in (('fsync', 1), ('fsync', 2), ('rename', 1), ('rename', 2), ('fsync', 3), ('unlink', 1)):
+            with self.subTest(name=name, at=at):
+                self.assertEqual(self.here(*common.WORDS, '-o', 'out', 'other.bin')[0], 0)
+                calls, real = iter(range(1, 100)), getattr(os, name)
+
+                def failing(*words, **options):
+                    if next(calls) == at:
+                        raise OSError(5, 'Input/output error')
+                    return real(*words, **options)
+                with mock.patch('os.' + name, failing):
+                    status, said = self.here(*common.WORDS, '-o', 'out', 'scans.bin')
+                self.assertEqual((status, said), (1, ['sounder: out: Input/output error']))
+                self.assertEqual(self.unfinished(), [])
+                self.assertIn(self.contents('out'), (before.products, self.expected.products))
+                if os.path.exists(self.at('out.json')):
+                    self.assert_belong('out', before)
 
 
 class Inputs(PlaceCase):
@@ -169,7 +249,8 @@ class Full(PlaceCase):
     """A disk that is full: status 1, the name, and nothing is left."""
 
     def limited(self, size, out='out', words=common.WORDS, names=('scans.bin',)):
-        return self.sounder(*words, '-o', out, *names, preexec_fn=lambda: resource.setrlimit(resource.RLIMIT_FSIZE, (size, size)))
+        program = common.prepared(f'resource.setrlimit(resource.RLIMIT_FSIZE, ({size}, {size}))')
+        return self.sounder(*words, '-o', out, *names, program=program)
 
     def test_files_that_may_not_grow(self):
         products = len(self.expected.products)
@@ -200,16 +281,39 @@ class Full(PlaceCase):
             ran = self.limited(PRODUCT * 40, words=('join',), names=('part-1', 'part-2'))
         self.assertEqual((ran.status, ran.lines), (1, ['sounder: out: products cannot be written: File too large']), ran)
 
+    def test_memory(self):
+        """Pieces and threads that have no room in memory."""
+        for size in (100_000_000, 150_000_000):
+            with self.unchanged(but=('out', 'out.json')):
+                program = common.prepared(f'resource.setrlimit(resource.RLIMIT_AS, ({size}, {size}))')
+                ran = self.sounder(*common.WORDS, '--jobs', '40', '-o', 'out', 'scans.bin', program=program)
+            if ran.status == 0:
+                self.assert_whole('out', self.expected, ['scans.bin'])
+                continue
+            self.assertEqual((ran.status, len(ran.lines)), (1, 1), ran)
+            self.assertRegex(ran.lines[0], '^sounder: (there is too little memory|the system has no room for 41 threads: .*)$')
+            self.assertFalse(os.path.exists(self.at('out')))
+
+    def test_threads(self):
+        calls, start = iter(range(3)), threading.Thread.start
+
+        def failing(thread):
+            if next(calls) == 2:
+                raise RuntimeError("can't start new thread")
+            start(thread)
+        with mock.patch('threading.Thread.start', failing):
+            self.refused('out', 'take fewer with --jobs', named='--jobs')
+
     def mounted(self, options, *words):
         """Runs the command with a small file system at the folder `disk`; answers the run and what is left there."""
         os.makedirs(self.at('disk'), exist_ok=True)
-        ways = [['unshare', '-m'], ['unshare', '-rm']]
-        for way in ways:
-            ran = subprocess.run([*way, 'sh', '-c', MOUNTED, 'sh', options, self.at('disk'), self.at('listed'), *COMMAND, *words], cwd=self.folder,
-                                 stdin=subprocess.DEVNULL, stdout=subprocess.PIPE, stderr=subprocess.PIPE, timeout=common.PATIENCE)
-            if ran.returncode not in (77, 127) and os.path.exists(self.at('listed')):
-                ran = common.Ran(ran.returncode, ran.stdout, ran.stderr)
-                return ran, self.contents('listed').decode().split()
+        script = ['sh', '-c', MOUNTED, 'sh', options, self.at('disk'), self.at('listed'), *COMMAND]
+        for way in ('-m', '-rm'):
+            ran = self.sounder(*words, program=['unshare', way, *script])
+            if os.path.exists(self.at('listed')):
+                left = self.contents('listed').decode().split()
+                os.remove(self.at('listed'))
+                return ran, left
         raise unittest.SkipTest('no file system can be mounted here')
 
     def test_a_small_disk(self):

@@ -90,7 +90,8 @@ class Known(LibraryCase):
         for count, t in ((20_000, 0), (20_079, 4_140)):
             self.assertEqual(self.library.thermometer(*BENCH, 20_000, 0, count), t)
         # Each of the eight numbers has its own place.
-        for words, t in (((*BENCH, 20_000, 0, 19_000), -52_310), ((4_000_000, 3_999_999, 5_000_000, 2_000_000, 500_000, 65_535, 7, 60_000), -67_610),
+        for words, t in (((*BENCH, 20_000, 0, 19_000), -52_310),
+                         ((4_000_000, 3_999_999, 5_000_000, 2_000_000, 500_000, 65_535, 7, 60_000), -67_610),
                          ((1_000, 1_001, 3_000_000, 0, 0, 30_000, 20_000, 29_000), -137_761),
                          ((2_000_000, 2_000_000, 3_908_300, 1_480_000, 110_000, 50_000, 100, 41_000), -184_989)):
             self.assertEqual(self.library.thermometer(*words), t, words)
@@ -165,7 +166,8 @@ class Refusals(LibraryCase):
             self.refused('the table', number, self.library.feed_all, *words)
 
     def test_bias_files(self):
-        for content, number in ((b'', 1), (self.bias[:-1], 1), (self.bias + b'\0', 1), (b'\0' + self.bias[1:], 2), (sample('refused_bias/bias.bin'), 3)):
+        for content, number in ((b'', 1), (self.bias[:-1], 1), (self.bias + b'\0', 1), (b'\0' + self.bias[1:], 2),
+                                (sample('refused_bias/bias.bin'), 3)):
             self.refused('the bias file', number, self.library.open_bias, content)
             self.refused('the bias file', number, self.library.fresh, self.table, content, bytearray(STATE))
             self.refused('the bias file', number, self.library.fresh, self.table, content, bytearray(3))
@@ -318,7 +320,8 @@ class WrongKinds(LibraryCase):
         state, one = bytes(self.state()), array('I', [RECORD])
         for wrong in (b'x' * STATE, memoryview(bytearray(STATE)).toreadonly(), 'x' * STATE, None, 5, memoryview(bytearray(2 * STATE))[::2],
                       self.table, b''):
-            for call in (lambda: self.library.fresh(self.table, self.bias, wrong), lambda: self.library.feed(wrong, self.scan, bytearray(PRODUCT)),
+            for call in (lambda: self.library.fresh(self.table, self.bias, wrong),
+                         lambda: self.library.feed(wrong, self.scan, bytearray(PRODUCT)),
                          lambda: self.library.feed(bytearray(state), self.scan, wrong),
                          lambda: self.library.feed_all(self.table, self.bias, self.scan, one, wrong, one, bytearray(1)),
                          lambda: self.library.feed_all(self.table, self.bias, self.scan, one, bytearray(PRODUCT), one, wrong)):
@@ -327,8 +330,9 @@ class WrongKinds(LibraryCase):
         self.assertEqual(sum_of(state), BENCH_STATE)
 
     def test_lengths(self):
-        for wrong in ([RECORD], (RECORD,), bytes(4), array('H', [RECORD, 0]), array('Q', [RECORD]), array('i', [RECORD]), array('f', [1.0]), None,
-                      RECORD, '4648', memoryview(array('I', [RECORD] * 4))[::2], memoryview(array('I', [RECORD])).cast('B').cast('i')):
+        for wrong in ([RECORD], (RECORD,), bytes(4), array('H', [RECORD, 0]), array('Q', [RECORD]), array('i', [RECORD]), array('f', [1.0]),
+                      None, RECORD, '4648', memoryview(array('I', [RECORD] * 4))[::2],
+                      memoryview(array('I', [RECORD])).cast('B').cast('i')):
             for lengths, rooms in ((wrong, array('I', [PRODUCT])), (array('I', [RECORD]), wrong)):
                 with self.assertRaises((TypeError, ValueError)):
                     self.library.feed_all(self.table, self.bias, self.scan, lengths, bytearray(PRODUCT), rooms, bytearray(1))
@@ -390,7 +394,8 @@ class Missed(Case):
     def test_another_library(self):
         self.missed(self.built('int other(void) { return 1; }'), 'is not the library of the sounder calibrator')
         # The version is right, and the functions are not there.
-        self.missed(self.built(f'unsigned sounder_version(void) {{ return {library.VERSION_NUMBER}; }}'), 'is not the library of the sounder calibrator')
+        alone = self.built(f'unsigned sounder_version(void) {{ return {library.VERSION_NUMBER}; }}')
+        self.missed(alone, 'is not the library of the sounder calibrator')
 
     def test_another_version(self):
         for number, words in ((50_909, '5.9.9'), (70_000, '7.0.0'), (0, '0.0.0'), (4_294_967_295, '429496.72.95')):
@@ -402,7 +407,8 @@ class Missed(Case):
 
     def test_a_later_version_serves(self):
         folder = os.path.join(ROOT, 'target', 'lib')
-        name = self.built('unsigned sounder_version(void) { return 60207u; }', '-L' + folder, '-Wl,--no-as-needed', '-lstation', '-Wl,-rpath,' + folder)
+        options = '-L' + folder, '-Wl,--no-as-needed', '-lstation', '-Wl,-rpath,' + folder
+        name = self.built('unsigned sounder_version(void) { return 60207u; }', *options)
         with mock.patch.dict(os.environ, SOUNDER_LIBRARY=name):
             self.assertEqual(Library().version(), 60_207)
             self.assertIsNone(Library().open(sample('table.bin')))

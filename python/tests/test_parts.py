@@ -183,15 +183,17 @@ class Refused(PartsCase):
         one, two, three = self.parts
         page = self.contents(two + '.json')
         for other in (b'', b'{', page[:-3], page + b'}', b'[]', b'null', b'5', b'"part"', b'{}', b'\xff\xfe', b'[' * 100_000, b'9' * 10_000,
-                      page.replace(b'"form": 1', b'"form": 2'), page.replace(b'"records"', b'"record"'), page.replace(b'"part"', b'"part": 1, "x"'),
+                      page.replace(b'"form": 1', b'"form": 2'), page.replace(b'"records"', b'"record"'),
+                      page.replace(b'"part"', b'"part": 1, "x"'),
                       page.replace(b'"before": [', b'"before": 7, "befor": ['), page.replace(b'"sha256": "', b'"sha256": 1, "sha": "'),
                       self.contents(two)):
             self.put(two + '.json', other)
             self.refused('this is no page of products', one, two, three, named=two + '.json')
-        for change in (lambda p: p.update(records=str(p['records'])), lambda p: p.update(records=1.5), lambda p: p.update(refusals={'x': 1}),
-                       lambda p: p.update(refusals={'5': 'x'}), lambda p: p.update(refusals=[]), lambda p: p.update(refused=[5]),
-                       lambda p: p.update(before=[[0, 'x']]), lambda p: p.update(part={'number': 2}), lambda p: p.update(archive={}),
-                       lambda p: p.update(more=1), lambda p: p['products'].update(bytes=None), lambda p: p['refused'].append({})):
+        for change in (lambda p: p.update(records=str(p['records'])), lambda p: p.update(records=1.5),
+                       lambda p: p.update(refusals={'x': 1}), lambda p: p.update(refusals={'5': 'x'}), lambda p: p.update(refusals=[]),
+                       lambda p: p.update(refused=[5]), lambda p: p.update(before=[[0, 'x']]), lambda p: p.update(part={'number': 2}),
+                       lambda p: p.update(archive={}), lambda p: p.update(more=1), lambda p: p['products'].update(bytes=None),
+                       lambda p: p['refused'].append({})):
             self.put(two + '.json', page)
             self.edited(two, change)
             self.refused('this is no page of products', one, two, three, named=two + '.json')
@@ -201,12 +203,13 @@ class Refused(PartsCase):
         one, two, three = self.parts
         page = self.contents(two + '.json')
         self.assertTrue(self.page(two)['refused'])
-        for change in (lambda p: p.update(records=p['records'] + 1), lambda p: p.update(refusals={}), lambda p: p['refusals'].update({'4': 1}),
-                       lambda p: p['refused'].pop(), lambda p: p['refused'][0].update(offset=1), lambda p: p['refused'][0].update(number=6.0),
+        for change in (lambda p: p.update(records=p['records'] + 1), lambda p: p.update(refusals={}),
+                       lambda p: p['refusals'].update({'4': 1}), lambda p: p['refused'].pop(), lambda p: p['refused'][0].update(offset=1),
+                       lambda p: p['refused'][0].update(number=6.0), lambda p: p['refused'][0].update(number=9),
                        lambda p: p['refused'][0].update(last=p['refused'][0]['last'] + 1), lambda p: p['refused'][0].update(file=1),
-                       lambda p: p['refused'][0].update(file=-1), lambda p: p['refused'][0].update(number=9),
-                       lambda p: p['refused'].append(dict(p['refused'][0])), lambda p: p['products'].update(number=p['products']['number'] - 1),
-                       lambda p: p.update(records=True), lambda p: p.update(after=p['after'] + [[5]])):
+                       lambda p: p['refused'][0].update(file=-1), lambda p: p['refused'].append(dict(p['refused'][0])),
+                       lambda p: p['products'].update(number=p['products']['number'] - 1), lambda p: p.update(records=True),
+                       lambda p: p.update(after=p['after'] + [[5]])):
             self.put(two + '.json', page)
             self.edited(two, change)
             self.refused('this is no page of products', one, two, three, named=two + '.json')
@@ -332,7 +335,8 @@ class There(PartsCase):
         other = self.contents('out')[:PRODUCT] * 18
         for change in ({'products': {**good['products'], 'sha256': sum_of(other)}}, {'products': {**good['products'], 'bytes': PRODUCT}},
                        {'part': {'number': 3, 'of': 3}}, {'part': {'number': 2, 'of': 4}}, {'records': 21}, {'refusals': {'6': 2}},
-                       {'refused': []}, {'refused': [{**good['refused'][0], 'first': 1}]}, {'table': {**good['table'], 'sha256': sum_of(b'')}},
+                       {'refused': []}, {'refused': [{**good['refused'][0], 'first': 1}]},
+                       {'table': {**good['table'], 'sha256': sum_of(b'')}},
                        {'bias': {**good['bias'], 'sha256': sum_of(b'')}}, {'archive': [{**good['archive'][0], 'sha256': sum_of(b'')}]},
                        {'archive': [{**good['archive'][0], 'bytes': 5}]}, {'archive': []}, {'archive': good['archive'] * 2}):
             with self.subTest(change=change):

@@ -1,5 +1,5 @@
 """Runs beside each other, runs that are ended, and files that change while a run reads them."""
-import json
+import fcntl
 import os
 import random
 import signal
@@ -142,7 +142,8 @@ class Replaced(RunCase):
         def replace():
             self.put('new', gapped())
             os.replace(self.at('new'), self.at('scans.bin'))
-        for change in (append, overwrite, replace, lambda: os.truncate(self.at('scans.bin'), 5_000), lambda: self.put('scans.bin', gapped()[:-1])):
+        for change in (append, overwrite, replace, lambda: os.truncate(self.at('scans.bin'), 5_000),
+                       lambda: self.put('scans.bin', gapped()[:-1])):
             self.changed(change, 'it has changed since the run began')
         self.changed(lambda: os.remove(self.at('scans.bin')), 'No such file')
 
@@ -167,8 +168,9 @@ class Replaced(RunCase):
         def overwrite(file):
             file.seek(-100, os.SEEK_END)
             file.write(b'\0')
-        for change, words in ((append, 'it has changed'), (overwrite, 'it has changed'), (lambda file: file.truncate(3_000 * RECORD), 'it ends at offset'),
-                              (lambda file: file.truncate(0), 'it ends at offset')):
+        for change, words in ((append, 'it has changed'), (overwrite, 'it has changed'),
+                              (lambda file: file.truncate(0), 'it ends at offset'),
+                              (lambda file: file.truncate(3_000 * RECORD), 'it ends at offset')):
             self.put('scans.bin', given)
             process = self.start(*common.WORDS, '--jobs', '1', 'scans.bin', stdout=subprocess.PIPE)
             process.stdout.read(PRODUCT)
@@ -242,7 +244,7 @@ class Signals(RunCase):
         self.put('scans.bin', gapped())
         folder = os.open(self.folder, os.O_RDONLY)
         self.addCleanup(os.close, folder)
-        common.fcntl.flock(folder, common.fcntl.LOCK_EX)
+        fcntl.flock(folder, fcntl.LOCK_EX)
         process = self.start(*common.WORDS, '-o', 'out', 'scans.bin')
         wait_until(lambda: len(self.unfinished()) == 2, 'products and page')
         time.sleep(0.1)
@@ -281,7 +283,7 @@ class Signals(RunCase):
     def test_ignored(self):
         """What is ignored, as SIGHUP under nohup and SIGINT in the background of a script, stays so."""
         for number in (signal.SIGHUP, signal.SIGINT, signal.SIGTERM):
-            process, fifo = self.half_way(preexec_fn=lambda: signal.signal(number, signal.SIG_IGN))
+            process, fifo = self.half_way(program=common.prepared(f'signal.signal({int(number)}, signal.SIG_IGN)'))
             os.kill(process.pid, number)
             time.sleep(0.02)
             os.kill(process.pid, number)
@@ -403,8 +405,8 @@ class Killed(RunCase):
         """Only what a run could have left is removed."""
         self.put('scans.bin', gapped())
         old = time.time() - 7_200
-        names = ['.sounder-x.part', 'sounder-0123456789abcdef.part', '.sounder-0123456789abcdef.part.txt', '.sounder-0123456789ABCDEF.part', 'out.part']
-        for name in names:
+        for name in ('.sounder-x.part', 'sounder-0123456789abcdef.part', '.sounder-0123456789abcdef.part.txt', 'out.part',
+                     '.sounder-0123456789ABCDEF.part'):
             os.utime(self.at(self.put(name, b'mine')), (old, old))
         os.mkdir(self.at('.sounder-0123456789abcdef.part'))
         os.symlink('scans.bin', self.at('.sounder-1123456789abcdef.part'))
