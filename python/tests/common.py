@@ -26,8 +26,18 @@ RECORD, PRODUCT = 4_648, 8_706
 LAST_NUMBER = 2**32 - 1
 # How long anything may take that takes no time unless something is wrong.
 PATIENCE = 60
-# Results stand in memory where there is such a folder: every run brings them to the disk.
-MEMORY = '/dev/shm' if os.access('/dev/shm', os.W_OK) else None
+
+
+def memory():
+    """A folder in memory, where there is a large one: every run brings its results to the disk. None is the usual folder for such files."""
+    try:
+        room = os.statvfs('/dev/shm')
+    except OSError:
+        return None
+    return '/dev/shm' if os.access('/dev/shm', os.W_OK) and room.f_bavail * room.f_frsize > 2**31 else None
+
+
+MEMORY = memory()
 
 os.environ.pop('SOUNDER_LIBRARY', None)
 

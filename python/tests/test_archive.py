@@ -1,6 +1,9 @@
 """Archives in pieces and in parts: the products, refusals and pages of one run."""
 import os
 import random
+from unittest import mock
+
+from sounder.library import Library
 
 from . import common
 from .common import PRODUCT, RECORD, Case, Expected, drawn, expected_of, gapped, one_run, plain, record, sample, sum_of
@@ -232,6 +235,35 @@ class Damage(Case):
         self.damaged(content[:46_483] + b'\xff\0\0\0' + content[46_487:], 11, 6, 6, 51_128)
 
 
+class WrongAnswers(Case):
+    """A library that does not do what it should: told with the record, and nothing is left."""
+
+    def answered(self, change):
+        """A run with a library whose answers are changed where products are asked for."""
+        def feed_all(library, table, bias, records, lengths, buffers, rooms, answers, call=Library.feed_all):
+            call(library, table, bias, records, lengths, buffers, rooms, answers)
+            if len(rooms) > 1 and all(room == PRODUCT for room in rooms):
+                change(answers)
+        self.put('scans.bin', plain(30))
+        with mock.patch.object(Library, 'feed_all', feed_all), self.unchanged():
+            status, said = self.here(*common.WORDS, '--jobs', '1', '-o', 'out', 'scans.bin', piece=10)
+        self.assertEqual((status, len(said)), (1, 1), said)
+        return said[0]
+
+    def test_answers_that_are_none(self):
+        for answer in (7, 9, 255):
+            def change(answers):
+                answers[3] = answer
+            self.assertEqual(self.answered(change), f'sounder: scans.bin: record 3 offset 13944: the library answers {answer}')
+
+    def test_another_last_record(self):
+        """A record that is accepted in one piece and refused where the next one begins."""
+        def change(answers):
+            if len(answers) > 10:
+                answers[6] = 6
+        self.assertTrue(self.answered(change).startswith('sounder: scans.bin: record 10 offset 46480: the records fed before it are '))
+
+
 class Large(Case):
     def test_offsets_behind_two_gigabytes(self):
         """Accepted records and refusals behind 2^31 bytes, in an archive that takes no room: zeros are refused with 5."""
@@ -243,7 +275,7 @@ class Large(Case):
                 file.write(record(number + 1))
             file.truncate(462_605 * RECORD + 17)
         with open(self.at('errors'), 'wb') as errors:
-            process = self.start(*common.WORDS, '-o', 'out', 'scans.bin', stderr=errors)
+            process = self.start(*common.WORDS, '--jobs', '4', '-o', 'out', 'scans.bin', stderr=errors)
             _, status, used = os.wait4(process.pid, 0)
             process.returncode = os.waitstatus_to_exitcode(status)
         self.assertEqual(process.returncode, 0, self.contents('errors'))

@@ -141,6 +141,41 @@ class Help(Case):
         self.assertEqual((ran.returncode, ran.stdout[:8]), (0, b'sounder '))
 
 
+class Installed(Case):
+    """The command in bin/, the package and the library in lib/."""
+
+    def setUp(self):
+        super().setUp()
+        self.prefix = self.at('a prefix')
+        package, library = (os.path.join(self.prefix, 'lib', *words) for words in (('sounder', 'python', 'sounder'), ('libstation.so.6',)))
+        os.makedirs(os.path.join(self.prefix, 'bin'))
+        shutil.copytree(os.path.join(common.PACKAGE, 'sounder'), package, ignore=shutil.ignore_patterns('__pycache__'))
+        shutil.copy(os.path.join(common.ROOT, 'tools', 'sounder'), os.path.join(self.prefix, 'bin'))
+        shutil.copy(os.path.join(common.ROOT, 'target', 'lib', 'libstation.so.6'), library)
+        self.library = library
+        self.program = [*common.COMMAND[:2], os.path.join(self.prefix, 'bin', 'sounder')]
+
+    def files(self):
+        return sorted(os.path.join(folder, name) for folder, _, names in os.walk(self.prefix) for name in names)
+
+    def test_run(self):
+        before = self.files()
+        self.put('scans.bin', gapped())
+        ran = self.sounder(*common.WORDS, '-o', 'out', 'scans.bin', program=self.program)
+        self.assertEqual(ran.status, 0, ran)
+        self.assert_whole('out', expected_of(gapped()), ['scans.bin'])
+        self.assertEqual(self.files(), before, 'a run writes nothing beside the package')
+
+    def test_without_a_library(self):
+        """Then the loader's own places are asked, and where they have none, this is told."""
+        os.remove(self.library)
+        ran = self.sounder('--version', program=self.program)
+        if ran.status == 0:
+            self.skipTest('a library is installed here')
+        self.assertEqual((ran.status, ran.output, len(ran.lines)), (1, b'', 1), ran)
+        self.assertTrue(ran.lines[0].startswith('sounder: the library libstation.so.6 cannot be loaded ('), ran)
+
+
 class Streams(Case):
     """Closed, full and ended streams. With -o OUT standard output has no part, and what cannot be shown ends nothing."""
 
@@ -442,9 +477,11 @@ class Names(Case):
                 for line in ran.lines[:-1]:
                     self.assertRegex(line, r'^[^\n]+: records? \d+( to \d+)? offset \d+ refused \d$')
                 os.remove(self.at(name))
-                ran = self.sounder(*common.WORDS, '-oout', '--', name)
-                self.assertEqual((ran.status, len(ran.lines)), (1, 1), ran)
-                self.assertTrue(ran.lines[0].isprintable())
+                # Also where the language of messages is the plain one.
+                for given in ({}, {'env': {**os.environ, 'LC_ALL': 'C'}}):
+                    ran = self.sounder(*common.WORDS, '-oout', '--', name, **given)
+                    self.assertEqual((ran.status, len(ran.lines)), (1, 1), ran)
+                    self.assertTrue(ran.lines[0].isprintable())
 
     def test_two_dashes(self):
         """As a word of an option they may be a name or be refused, as Python's own reader of words has it."""
