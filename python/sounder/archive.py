@@ -19,13 +19,15 @@ from collections import Counter, namedtuple
 from itertools import groupby
 
 from .failure import Failure, failed, shown_input
-from .files import read_up_to
+from .files import is_ready, read_up_to
 from .library import PRODUCT_BYTES, RECORD_BYTES
 from .pipeline import Pipeline
 
 # Records in one call, at the most: enough that those from before it, fed once more, cost little, and few enough that a piece stays small.
 PIECE = 512
 SMALL_PIECE = 64
+# How long a stream may pause, in seconds, before what has come of a piece is calibrated.
+PAUSE = 0.05
 # How many numbers a piece reaches back: the last accepted number and the six before it.
 NUMBERS = 7
 READ = os.O_RDONLY | os.O_CLOEXEC
@@ -75,7 +77,7 @@ class File:
         if size is not None:
             view = view[:size - self.read]
         try:
-            have = read_up_to(self.descriptor, view)
+            have = read_up_to(self.descriptor, view, self.pauses if size is None else None)
         except OSError as failure:
             raise Failure(f'{self.words}: it cannot be read from offset {self.read} on: {failure.strerror}') from None
         if size is not None and have < len(view):
@@ -84,8 +86,14 @@ class File:
         self.read += have
         return have
 
+    def pauses(self, have):
+        """Whether whole records are there and nothing comes for the moment: products of a slow stream do not wait for a whole piece."""
+        return have and have % RECORD_BYTES == 0 and not is_ready(self.descriptor, PAUSE)
+
     def close(self):
         self.is_as_it_was()
+        if self.status and os.read(self.descriptor, 1):
+            raise Failure(f'{self.words}: it goes on behind its size, {self.status.st_size} bytes')
         if self.descriptor != 0:
             os.close(self.descriptor)
 
@@ -311,6 +319,13 @@ def read_pieces(archive, low, high, jobs, pipeline):
         file.close()
 
 
+def rooms_for(pieces):
+    try:
+        return [Piece() for _ in range(pieces)]
+    except OSError as failure:
+        raise Failure(f'there is no memory for {pieces} pieces: {failure.strerror}; take fewer with --jobs') from None
+
+
 def calibrate(calibration, archive, part, jobs, write, show):
     """Calibrates one part of an archive, writes its products in order, and answers what became of its records. `show` is told how many
     records were read."""
@@ -326,7 +341,7 @@ def calibrate(calibration, archive, part, jobs, write, show):
         for row in piece.product_rows():
             write(row)
 
-    pipeline = Pipeline([Piece() for _ in range(jobs + 3)], calibration.feed, [take, keep], jobs)
+    pipeline = Pipeline(rooms_for(jobs + 3), calibration.feed, [take, keep], jobs)
     try:
         for piece in read_pieces(archive, low, high, jobs, pipeline):
             if piece.place == low:

@@ -7,7 +7,7 @@ import time
 
 from . import archive, pages
 from .failure import Failure, shown, shown_input
-from .files import ENDING, Results, Stream, contents, drop_unfinished, same_file, write_all
+from .files import ENDING, Results, Stream, contents, drop_unfinished, is_ready, same_file, write_all
 from .library import BIAS_BYTES, TABLE_BYTES, Library, Missing, Refusal, version_words
 
 DESCRIPTION = 'Calibrates microwave sounder scans by the proved library.'
@@ -22,10 +22,16 @@ class Ended(BaseException):
         self.number = number
 
 
+# How long standard error is waited for, in seconds, where a terminal is stopped or a pipe is full; and what it then takes at once.
+PATIENCE, AT_ONCE = 2, 4096
+
+
 def say(words):
     """A line on standard error. What cannot be shown there ends nothing."""
+    line = (words + '\n').encode('utf-8', 'backslashreplace')
     try:
-        write_all(2, (words + '\n').encode('utf-8', 'backslashreplace'))
+        while line and is_ready(2, PATIENCE, to_write=True):
+            line = line[os.write(2, line[:AT_ONCE]):]
     except OSError:
         pass
 
@@ -76,9 +82,11 @@ class Progress:
             self.line(f'{records} of {self.total} records' if self.total else f'{records} records')
 
     def line(self, words):
+        """Where the terminal is stopped, nothing."""
         try:
-            os.write(2, ('\r' + words.ljust(self.width)).encode())
-            self.width = len(words)
+            if is_ready(2, 0, to_write=True):
+                os.write(2, ('\r' + words.ljust(self.width)).encode())
+                self.width = len(words)
         except OSError:
             self.shows = False
 
@@ -122,8 +130,8 @@ def parser():
     calibrate.add_argument('--bias', required=True, metavar='BIAS', help='the bias file')
     calibrate.add_argument('--jobs', type=jobs, metavar='N', help='how many pieces are calibrated at a time (all processors)')
     calibrate.add_argument('--part', type=part, default=(1, 1), metavar='K/N', help='only part K of N; `sounder join` joins the parts')
-    calibrate.add_argument('archives', nargs='*', default=['-'], metavar='ARCHIVE', help='files of records (standard input, also as -)')
-    calibrate.add_argument('-o', dest='out', default='-', metavar='OUT', help='the products (standard output, without a page, also as -)')
+    calibrate.add_argument('archives', nargs='*', metavar='ARCHIVE', help='files of records; - is standard input')
+    calibrate.add_argument('-o', dest='out', default='-', metavar='OUT', help='the file of products; - is standard output, without a page')
 
     join = added(commands, run_join, 'join', 'join the products of all parts', (
         'Joins the products of all parts of an archive, in order, to OUT and OUT.json, those of one run. Refuses where a part is missing, '
@@ -160,20 +168,38 @@ def opened(library, kind, name, size):
     return content
 
 
-def run_calibrate(words):
+def test_usage(words):
+    """What the parser of the words does not see."""
+    if not words.archives:
+        raise Usage('an archive is needed, or - for standard input')
+    if words.archives.count('-') > 1:
+        raise Usage('standard input can be read once')
     if words.part != (1, 1) and '-' in words.archives:
         raise Usage('--part needs files: where standard input ends is not known before')
-    if words.out == '-' and words.part != (1, 1):
+    if words.part != (1, 1) and words.out == '-':
         raise Usage('--part needs -o OUT: a part without its page cannot be joined')
     if '-' in words.archives and os.isatty(0):
         raise Usage('records are not read from a terminal: name an archive')
     if words.out == '-' and os.isatty(1):
         raise Usage('products are not written to a terminal: name a file with -o OUT')
-    files = [(name, name) for name in (words.table, words.bias)]
-    files += [(shown_input(name), 0 if name == '-' else name) for name in words.archives]
-    for name, file in files:
-        if words.out != '-' and (same_file(file, words.out) or same_file(file, words.out + '.json')):
-            raise Failure(f'{shown(words.out)}: {shown(name)}, which is read, would be written')
+
+
+def test_written(words):
+    """What is read by a run is not written by it."""
+    given = [(shown(name), name) for name in (words.table, words.bias)]
+    given += [(shown_input(name), 0 if name == '-' else name) for name in words.archives]
+    written = [('standard output', 1)] if words.out == '-' else [(shown(name), name) for name in (words.out, words.out + '.json')]
+    for name, file in given:
+        for other, place in written:
+            if same_file(file, place) and os.path.isfile(file):
+                raise Failure(f'{other}: {name}, which is read, would be written')
+
+
+def run_calibrate(words):
+    # Both streams may be left out together. With OUT a list of archives that came out empty is no wish for standard input.
+    words.archives = words.archives or ['-'] * (words.out == '-')
+    test_usage(words)
+    test_written(words)
     library = Library()
     version = version_words(library.version())
     table = opened(library, 'table', words.table, TABLE_BYTES)
@@ -187,6 +213,7 @@ def run_calibrate(words):
         if page:
             say(f'{shown(words.out)}: {pages.counts(page)}; it was there and is whole')
             return 0
+        pages.test_replaced(words.out)
     output = Stream() if words.out == '-' else Results(words.out)
     progress = Progress(records.records())
     count = words.jobs or len(os.sched_getaffinity(0))
@@ -244,9 +271,9 @@ def end_at_signals():
 
 def main(arguments=None):
     hold_streams()
-    end_at_signals()
     try:
         try:
+            end_at_signals()
             return run(arguments)
         finally:
             drop_unfinished()
@@ -254,8 +281,6 @@ def main(arguments=None):
             signal.pthread_sigmask(signal.SIG_BLOCK, ENDING)
     except Ended as ended:
         drop_unfinished()
-        # Standard error that nobody reads does not keep the run.
-        signal.alarm(2)
         say(f'sounder: ended by {signal.Signals(ended.number).name}')
         signal.signal(ended.number, signal.SIG_DFL)
         signal.pthread_sigmask(signal.SIG_UNBLOCK, ENDING)
@@ -268,7 +293,7 @@ def run(arguments):
     try:
         words = parser().parse_args(arguments)
         # What argparse makes of --table=-- and the like.
-        if [] in vars(words).values():
+        if any(value == [] for name, value in vars(words).items() if name != 'archives'):
             raise Usage('-- ends the options: a file with this name is ./--')
         if words.version:
             print_out(f'sounder {version_words(Library().version())}\n')

@@ -147,37 +147,67 @@ def is_whole(out, version, table, bias, files, part):
     return page
 
 
-def join(names, out):
-    """Joins the products of all parts of an archive, in order, to those of one run; answers their page."""
-    pages = [read_page(name) for name in names]
-    first, of = pages[0], pages[0]['part']['of']
+def test_replaced(out):
+    """Only results are replaced: products, or a file that has a page. A raw archive that a pattern of the shell puts behind -o is left."""
+    page = out + '.json'
+    if os.path.isfile(page) and not os.path.lexists(out):
+        read_page(out)
+    if os.path.isfile(out) and not os.path.lexists(page) and not has_products(out):
+        raise Failure(f'{shown(out)}: there is a file that has no products and no page; it is left as it is')
+
+
+def has_products(name):
+    """Whether a file has whole products, by its length and its first head."""
+    from .formats import HEAD, PRODUCT
+    try:
+        with opened(name) as file:
+            head, size = file.read(HEAD.size), os.fstat(file.fileno()).st_size
+    except OSError as failure:
+        raise failed(shown(name), failure) from None
+    return size == 0 or (size % PRODUCT_BYTES == 0 and head == PRODUCT.fields[0].head)
+
+
+def test_parts(names, pages):
+    """Whether these are all parts, in order, of one archive, made of one table and one bias file by one version."""
     for name, page in zip(names, pages):
-        for what, value in made_of(page).items():
-            if value != made_of(first)[what]:
+        for (what, value), first in zip(made_of(page).items(), made_of(pages[0]).values()):
+            if value != first:
                 raise Failure(f'{shown(name)}: its {what} is another than that of {shown(names[0])}')
+    of, before = pages[0]['part']['of'], []
     for number, (name, page) in enumerate(zip(names, pages), 1):
         if page['part']['number'] != number:
             raise Failure(f'{shown(name)}: this is part {page["part"]["number"]} of {of}, and part {number} must stand here')
     if len(names) != of:
         raise Failure(f'{shown(names[-1])}: this is part {len(names)} of {of}, and none follows')
-    before = []
     for name, page in zip(names, pages):
         if page['before'] != before:
             raise Failure(f'{shown(name)}: it was made behind the accepted records {page["before"]}, and those before it are {before}')
         before = page['after']
+
+
+def copied(name, page, results, total):
+    """Copies the products of a part, which must be those that its page names."""
+    own, size = hashlib.sha256(), 0
+    for block in blocks_of(name):
+        own.update(block)
+        total.update(block)
+        results.write(block)
+        size += len(block)
+    if (size, own.hexdigest()) != (page['products']['bytes'], page['products']['sha256']):
+        raise Failure(f'{shown(name)}: its bytes are not those that its page names')
+
+
+def join(names, out):
+    """Joins the products of all parts of an archive, in order, to those of one run; answers their page."""
+    pages = [read_page(name) for name in names]
+    test_parts(names, pages)
     for name in (*names, *(name + '.json' for name in names)):
         if same_file(name, out) or same_file(name, out + '.json'):
             raise Failure(f'{shown(out)}: {shown(name)}, which is read, would be written')
+    test_replaced(out)
     results, total = Results(out), hashlib.sha256()
     for name, page in zip(names, pages):
-        own, size = hashlib.sha256(), 0
-        for block in blocks_of(name):
-            own.update(block)
-            total.update(block)
-            results.write(block)
-            size += len(block)
-        if (size, own.hexdigest()) != (page['products']['bytes'], page['products']['sha256']):
-            raise Failure(f'{shown(name)}: its bytes are not those that its page names')
+        copied(name, page, results, total)
     whole = joined(pages, total.hexdigest())
     results.finish(text_of(whole))
     return whole

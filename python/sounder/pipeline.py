@@ -35,7 +35,7 @@ class Pipeline:
     def slot(self):
         """Waits for a free slot."""
         slot = self.free.get()
-        if slot is None:
+        if self.failure:
             raise self.failure
         return slot
 

@@ -184,7 +184,7 @@ class Streams(Case):
         self.put('scans.bin', b'head' + gapped())
         with open(self.at('scans.bin'), 'rb', buffering=0) as scans:
             scans.seek(4)
-            ran = self.sounder(*common.WORDS, '-o', 'out', stdin=scans)
+            ran = self.sounder(*common.WORDS, '-o', 'out', '-', stdin=scans)
         self.assertEqual(ran.status, 0, ran)
         self.assert_whole('out', expected_of(gapped()), ['-'])
 

@@ -70,8 +70,11 @@ class Usage(Case):
 
     def test_part_of_what_has_no_end(self):
         self.put('scans.bin', plain(3))
-        for names in ((), ('-',), ('scans.bin', '-')):
+        for names in (('-',), ('scans.bin', '-')):
             self.wrong('--part needs files', *common.WORDS, '--part', '1/2', '-o', 'out', *names)
+        self.wrong('an archive is needed', *common.WORDS, '--part', '1/2', '-o', 'out')
+        self.wrong('an archive is needed', *common.WORDS, '-o', 'out')
+        self.wrong('standard input can be read once', *common.WORDS, '-o', 'out', '-', '-')
         self.wrong('--part needs -o OUT', *common.WORDS, '--part', '1/2', 'scans.bin')
         self.wrong('--part needs -o OUT', *common.WORDS, '--part', '1/2', '-o', '-', 'scans.bin')
         os.mkfifo(self.at('fifo'))
@@ -235,7 +238,7 @@ class Streams(Case):
         null = os.open('/dev/null', os.O_WRONLY)
         self.addCleanup(os.close, null)
         for streams in ({'program': closed(0)}, {'stdin': folder}, {'stdin': null}, {'program': closed(0, 1)}):
-            for out in (('-o', 'out'), ()):
+            for out in (('-o', 'out', '-'), ()):
                 with self.subTest(streams=streams, out=out), self.unchanged():
                     ran = self.sounder(*common.WORDS, *out, **streams)
                     self.assertEqual(ran.status, 1, ran)

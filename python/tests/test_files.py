@@ -100,7 +100,7 @@ class Places(PlaceCase):
     def test_links(self):
         """Products go to the file behind a link, which stays a link."""
         os.mkdir(self.at('folder'))
-        self.put('folder/real', b'before')
+        self.put('folder/real', expected_of(plain(8)).products)
         os.symlink('folder/real', self.at('link'))
         os.symlink('folder/new', self.at('dangling'))
         os.symlink('link', self.at('twice'))
@@ -154,11 +154,11 @@ class Disk(PlaceCase):
             found.append(('folder',) if stat.S_ISDIR(status.st_mode) else ('synced', status.st_ino, status.st_size))
             return call(descriptor)
 
-        def named(source, place, call=os.rename):
-            status = os.stat(source)
+        def named(source, place, call=os.rename, **folders):
+            status = os.stat(source, dir_fd=folders.get('src_dir_fd'))
             page = os.path.lexists(self.at('out.json'))
             found.append(('named', os.path.basename(place), status.st_ino, status.st_size, page))
-            return call(source, place)
+            return call(source, place, **folders)
         with mock.patch('os.fsync', synced), mock.patch('os.fdatasync', synced), mock.patch('os.rename', named), \
                 mock.patch('os.replace', named):
             status, said = self.here(*words)
@@ -235,7 +235,7 @@ class Inputs(PlaceCase):
         os.link(self.at('scans.bin'), self.at('out.json'))
         for out in ('scans.bin', 'hard', 'out'):
             with self.unchanged(), open(self.at('scans.bin'), 'rb') as scans:
-                ran = self.sounder(*common.WORDS, '-o', out, stdin=scans)
+                ran = self.sounder(*common.WORDS, '-o', out, '-', stdin=scans)
             self.assertEqual((ran.status, len(ran.lines)), (1, 1), ran)
             self.assertIn('would be written', ran.lines[0])
 
@@ -291,7 +291,7 @@ class Full(PlaceCase):
                 self.assert_whole('out', self.expected, ['scans.bin'])
                 continue
             self.assertEqual((ran.status, len(ran.lines)), (1, 1), ran)
-            self.assertRegex(ran.lines[0], '^sounder: (there is too little memory|the system has no room for 41 threads: .*)$')
+            self.assertRegex(ran.lines[0], '^sounder: (there is (too little memory|no memory for 43 pieces: .*)|the system has no room for 42 threads: .*)$')
             self.assertFalse(os.path.exists(self.at('out')))
 
     def test_threads(self):
@@ -332,7 +332,7 @@ class Full(PlaceCase):
     def test_a_disk_without_room_for_names(self):
         """The folder itself and the products take the two files that there may be."""
         ran, left = self.mounted('size=9m,nr_inodes=2', *common.WORDS, '-o', 'disk/out', 'scans.bin')
-        self.assertEqual((ran.status, ran.lines, left), (1, ['sounder: disk/out: No space left on device'], []), ran)
+        self.assertEqual((ran.status, ran.lines, left), (1, ['sounder: disk/out: no file can be made there: No space left on device'], []), ran)
 
     def test_a_disk_that_may_not_be_written(self):
         ran, left = self.mounted('ro', *common.WORDS, '-o', 'disk/out', 'scans.bin')

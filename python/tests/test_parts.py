@@ -379,7 +379,7 @@ class There(PartsCase):
 
     def test_standard_input(self):
         """Which bytes standard input has is not known before they are read; a file of that name is another one."""
-        words = (*common.WORDS, '-o', 'stream')
+        words = (*common.WORDS, '-o', 'stream', '-')
         for _ in range(2):
             self.put('-', gapped())
             self.put('other.bin', plain(61)[:len(gapped())])

@@ -6,6 +6,8 @@ import signal
 import subprocess
 import time
 
+from sounder import files
+
 from . import common
 from .common import PRODUCT, RECORD, SLOW_NAMES, Case, changed_command, ended, expected_of, gapped, plain, session_of, wait_until
 
@@ -165,7 +167,7 @@ class Replaced(RunCase):
         wait_until(lambda: any(os.path.getsize(self.at(name)) for name in self.unfinished()), 'products of the first piece')
         os.kill(process.pid, signal.SIGSTOP)
         # One that has come to the end already is no run to try this with.
-        if len(self.unfinished()) == 1:
+        if not os.path.exists(self.at('out')):
             return process
         self._end(process)
         for name in set(self.names()) - {'bias.bin', 'table.bin'}:
@@ -237,7 +239,7 @@ class Signals(RunCase):
         os.mkfifo(self.at('table'))
         self.put('scans.bin', plain(4_000))
         for words, waits in (((*common.WORDS, '-o', 'out', 'fifo'), lambda: self.unfinished()),
-                             (('calibrate', '--table', 'table', '--bias', 'bias.bin', '-o', 'out'), None),
+                             (('calibrate', '--table', 'table', '--bias', 'bias.bin', '-o', 'out', 'fifo'), None),
                              ((*common.WORDS, 'scans.bin'), None)):
             process = self.start(*words, stdout=subprocess.PIPE)
             if waits:
@@ -257,9 +259,9 @@ class Signals(RunCase):
     def test_while_another_program_holds_the_folder(self):
         """Names are given by one run at a time, and one that waits for its turn can be ended too."""
         self.put('scans.bin', gapped())
-        folder = os.open(self.folder, os.O_RDONLY)
-        self.addCleanup(os.close, folder)
-        fcntl.flock(folder, fcntl.LOCK_EX)
+        turn = os.open(self.at(files.TURN_NAME), os.O_RDWR | os.O_CREAT)
+        self.addCleanup(os.close, turn)
+        fcntl.flock(turn, fcntl.LOCK_EX)
         process = self.start(*common.WORDS, '-o', 'out', 'scans.bin')
         wait_until(lambda: len(self.unfinished()) == 2, 'products and page')
         time.sleep(0.1)
@@ -267,7 +269,16 @@ class Signals(RunCase):
         os.kill(process.pid, signal.SIGTERM)
         ran = ended(process)
         self.assertEqual((ran.status, ran.lines), (-signal.SIGTERM, ['sounder: ended by SIGTERM']), ran)
-        self.assertEqual(self.names(), ['bias.bin', 'scans.bin', 'table.bin'])
+        self.assertEqual(self.names(), [files.TURN_NAME, 'bias.bin', 'scans.bin', 'table.bin'])
+
+    def test_under_a_lock_on_the_folder(self):
+        """Whoever starts a run holds a lock on the folder of its results, as `flock FOLDER sounder ..` does."""
+        self.put('scans.bin', gapped())
+        folder = os.open(self.folder, os.O_RDONLY)
+        self.addCleanup(os.close, folder)
+        fcntl.flock(folder, fcntl.LOCK_EX)
+        self.assertEqual(ended(self.start(*common.WORDS, '-o', 'out', 'scans.bin')).status, 0)
+        self.assert_whole('out', expected_of(gapped()), ['scans.bin'])
 
     def test_at_any_moment(self):
         """Also while results get their names: both are there, whole, or neither is."""
@@ -327,10 +338,10 @@ class Signals(RunCase):
         os.mkdir(self.at('folder'))
         program = changed_command('''
 unlink = os.unlink
-def slowly(*words):
+def slowly(*words, **folder):
     os.kill(os.getpid(), 15)
     time.sleep(0.01)
-    unlink(*words)
+    unlink(*words, **folder)
 os.unlink = slowly''')
         with self.unchanged():
             ran = ended(self.start(*common.WORDS, '-o', 'out', 'scans.bin', 'folder', program=program))
@@ -394,13 +405,14 @@ class Killed(RunCase):
         ended(process)
         fifo.close()
         left = self.unfinished()
-        self.assertEqual(len(left), 1)
+        self.assertEqual(len(left), 2)
         self.put('scans.bin', gapped())
         # What is new may belong to a run that is about to hold it.
         self.assertEqual(self.here(*common.WORDS, '-o', 'out', 'scans.bin')[0], 0)
         self.assertEqual(self.unfinished(), left)
         old = time.time() - 120
-        os.utime(self.at(left[0]), (old, old))
+        for name in left:
+            os.utime(self.at(name), (old, old))
         self.assertEqual(self.here(*common.WORDS, '-o', 'other', 'scans.bin')[0], 0)
         self.assertEqual(self.unfinished(), [])
         self.assert_whole('out', expected_of(gapped()), ['scans.bin'])
@@ -413,7 +425,7 @@ class Killed(RunCase):
             os.utime(self.at(name), (old, old))
         self.put('scans.bin', gapped())
         self.assertEqual(self.sounder(*common.WORDS, '-o', 'other', 'scans.bin').status, 0)
-        self.assertEqual(len(self.unfinished()), 1)
+        self.assertEqual(len(self.unfinished()), 2)
         fifo.write(plain(600, 700))
         fifo.close()
         self.assertEqual(ended(process).status, 0)
