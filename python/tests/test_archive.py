@@ -1,6 +1,7 @@
 """Archives in pieces and in parts: the products, refusals and pages of one run."""
 import os
 import random
+import subprocess
 from unittest import mock
 
 from sounder.library import Library
@@ -187,6 +188,17 @@ class Streams(Case):
             ran = self.sounder(*common.WORDS, '-o', 'out', '-', stdin=scans)
         self.assertEqual(ran.status, 0, ran)
         self.assert_whole('out', expected_of(gapped()), ['-'])
+
+    def test_a_pipe_that_pauses(self):
+        """Products of what has come do not wait for more."""
+        process = self.start(*common.WORDS, stdin=subprocess.PIPE, stdout=subprocess.PIPE)
+        self.addCleanup(process.stdout.close)
+        for number in range(3):
+            process.stdin.write(plain(1, number + 1))
+            process.stdin.flush()
+            self.assertEqual(int.from_bytes(process.stdout.read(PRODUCT)[3:7], 'big'), number + 1)
+        process.stdin.close()
+        self.assertEqual(process.wait(common.PATIENCE), 0)
 
     def test_a_pipe_in_small_pieces(self):
         """Records are told apart by their length, however they arrive."""

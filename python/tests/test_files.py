@@ -133,6 +133,39 @@ class Places(PlaceCase):
         ran = subprocess.run(['sh', '-c', script, 'sh', self.at('gone'), *COMMAND, *words], stderr=subprocess.PIPE, timeout=common.PATIENCE)
         self.assertEqual((ran.returncode, ran.stderr), (1, b'sounder: out: no file can be made there: No such file or directory\n'))
 
+    def test_what_is_no_result(self):
+        """A raw archive that a pattern of the shell puts behind -o is left, and so is a file with the name of the page."""
+        self.put('day1.bin', plain(8))
+        self.refused('day1.bin', 'left as it is')
+        self.put('other.json', b'{"mine": 1}')
+        self.refused('other', 'this is no page of products', named='other.json')
+        # Products whose run was killed before their page had its name, and an empty file.
+        self.put('out', expected_of(plain(8)).products)
+        self.made('out')
+        self.put('empty', b'')
+        self.made('empty')
+
+    def test_a_page_that_leads_to_the_products(self):
+        os.symlink('out', self.at('out.json'))
+        self.refused('out', 'leads to the same file')
+
+    def test_no_name_of_a_file(self):
+        self.refused('nowhere/', 'no name of a file')
+
+    def test_a_folder_that_is_moved(self):
+        """Results go to the folder that it was, whatever stands in its place."""
+        os.mkdir(self.at('folder'))
+        os.mkfifo(self.at('fifo'))
+        process = self.start(*common.WORDS, '-o', 'folder/out', 'fifo')
+        with open(self.at('fifo'), 'wb') as fifo:
+            os.rename(self.at('folder'), self.at('moved'))
+            os.mkdir(self.at('folder'))
+            self.put('folder/out.json', b'of others')
+            fifo.write(gapped())
+        self.assertEqual(common.ended(process).status, 0)
+        self.assertEqual(self.contents('moved/out'), self.expected.products)
+        self.assertEqual(os.listdir(self.at('folder')), ['out.json'])
+
     def test_rights(self):
         """Results have the rights that new files have."""
         before = os.umask(0o027)
@@ -238,6 +271,13 @@ class Inputs(PlaceCase):
                 ran = self.sounder(*common.WORDS, '-o', out, '-', stdin=scans)
             self.assertEqual((ran.status, len(ran.lines)), (1, 1), ran)
             self.assertIn('would be written', ran.lines[0])
+
+    def test_standard_output(self):
+        """An archive that is standard output too is not written to."""
+        with self.unchanged(), open(self.at('scans.bin'), 'ab') as scans:
+            ran = self.sounder(*common.WORDS, 'scans.bin', stdout=scans)
+        self.assertEqual((ran.status, len(ran.lines)), (1, 1), ran)
+        self.assertIn('would be written', ran.lines[0])
 
     def test_later_files(self):
         for names in (('scans.bin', 'other.bin'), ('other.bin', 'scans.bin')):
