@@ -4,7 +4,6 @@ import threading
 from queue import LifoQueue, SimpleQueue
 
 from .failure import Failure
-from .files import ENDING
 
 
 class Pipeline:
@@ -23,7 +22,7 @@ class Pipeline:
         loops = [(self._work,)] * jobs
         loops += [(self._take, *stage) for stage in zip(takers, self.orders, self.orders[1:] + [self.free])]
         # A signal that another thread took would not wake the one that waits for records: the threads begin with what is blocked here.
-        before = signal.pthread_sigmask(signal.SIG_BLOCK, ENDING)
+        before = signal.pthread_sigmask(signal.SIG_BLOCK, signal.valid_signals())
         try:
             for loop in loops:
                 threading.Thread(target=self._guarded, args=loop, daemon=True).start()
