@@ -267,6 +267,9 @@ def end_at_signals():
     for number in ENDING:
         if signal.getsignal(number) != signal.SIG_IGN:
             signal.signal(number, end)
+    # A signal that comes just before a call that waits does not end this call; the next tick does.
+    signal.signal(signal.SIGALRM, lambda *_: None)
+    signal.setitimer(signal.ITIMER_REAL, 1, 1)
 
 
 def main(arguments=None):
@@ -277,6 +280,7 @@ def main(arguments=None):
             return run(arguments)
         finally:
             drop_unfinished()
+            signal.setitimer(signal.ITIMER_REAL, 0)
             # A signal that comes now finds the run ended, with its status.
             signal.pthread_sigmask(signal.SIG_BLOCK, ENDING)
     except Ended as ended:
