@@ -332,6 +332,31 @@ class Signals(RunCase):
             self.assertEqual(len(ran.lines), 1, ran)
             self.assertEqual(self.names(), ['bias.bin', 'fifo', 'table.bin'])
 
+    def test_before_a_run_waits(self):
+        """A signal that wakes nobody, as one does that comes just before the call that waits: here another thread takes it."""
+        program = changed_command('''
+import signal, threading
+def late():
+    while not [name for name in os.listdir('.') if name.endswith('.part')]:
+        time.sleep(0.01)
+    time.sleep(0.1)
+    signal.pthread_kill(threading.get_ident(), signal.SIGTERM)
+threading.Thread(target=late, daemon=True).start()''')
+        os.mkfifo(self.at('fifo'))
+        ran = ended(self.start(*common.WORDS, '-o', 'out', 'fifo', program=program))
+        self.assertEqual((ran.status, ran.lines), (-signal.SIGTERM, ['sounder: ended by SIGTERM']), ran)
+        self.assertEqual(self.names(), ['bias.bin', 'fifo', 'table.bin'])
+
+    def test_a_run_that_waits_for_long(self):
+        """Nothing ends a run that nobody ends."""
+        process, fifo = self.half_way()
+        time.sleep(1.3)
+        fifo.write(plain(600, 700))
+        fifo.close()
+        ran = ended(process)
+        self.assertEqual((ran.status, ran.lines), (0, [f'out: {expected_of(plain(1_200)).counts()}']), ran)
+        self.assert_whole('out', expected_of(plain(1_200)), ['fifo'])
+
     def test_while_a_run_fails(self):
         """A signal while the files of a run that has failed are removed: they are all removed."""
         self.put('scans.bin', gapped())
