@@ -24,7 +24,7 @@ from .library import PRODUCT_BYTES, RECORD_BYTES
 from .pipeline import Pipeline
 
 # Records in one call, at the most: enough that those from before it, fed once more, cost little, and few enough that a piece stays small.
-PIECE = 512
+PIECE = 256
 SMALL_PIECE = 64
 # How long a stream may pause, in seconds, before what has come of a piece is calibrated.
 PAUSE = 0.05
