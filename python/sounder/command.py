@@ -26,12 +26,19 @@ class Ended(BaseException):
 PATIENCE, AT_ONCE = 2, 4096
 
 
+# Whether standard error was waited for in vain. Then it is not waited for again.
+_unread = []
+
+
 def say(words):
     """A line on standard error. What cannot be shown there ends nothing."""
     line = (words + '\n').encode('utf-8', 'backslashreplace')
     try:
-        while line and is_ready(2, PATIENCE, to_write=True):
-            line = line[os.write(2, line[:AT_ONCE]):]
+        while line and not _unread:
+            if is_ready(2, PATIENCE, to_write=True):
+                line = line[os.write(2, line[:AT_ONCE]):]
+            else:
+                _unread.append(line)
     except OSError:
         pass
 
