@@ -10,7 +10,7 @@ test: ## the gate: proves everything from nothing and runs every check
 lib: ## builds the library, static and shared, and prints where it is
 	@tools/lib
 
-bench: ## measures speed against the same by hand in Rust, and of the command against one run
+bench: ## measures speed: the proved code against the same by hand, the command against the program
 	@tools/bench
 
 # PREFIX and DESTDIR of the command line reach the script through the environment.
@@ -20,7 +20,7 @@ install: ## installs below PREFIX (/usr/local if it is left out), with DESTDIR b
 uninstall: ## removes what install installs, with the same PREFIX and DESTDIR
 	@tools/install --remove
 
-clean: ## removes what builds have written
+clean: ## removes what builds have written and what Python has compiled
 	@rm -rf target compare/target python/*/__pycache__
 
 help: ## prints these lines

@@ -14,7 +14,7 @@
  * output is a file, before the state that has its scan. So a stop between the two leaves the state from before
  * the scan; the scan is fed again, and its product is written a second time, with the same bytes. In the other
  * order the product would be missed: the saved state would refuse the scan with 6. Waiting for the disk is meant
- * for scans as they come; an archive is calibrated faster in one call.
+ * for scans as they come; an archive is calibrated faster by `sounder calibrate`.
  *
  * After a stop a station
  *   - cuts off what may stand behind the last whole product, with which the program refuses to start:
@@ -42,7 +42,7 @@
  * The exit status is 0 when the input has ended or COUNT records were read, and 3 if the stream was bad; 1 where
  * the table or the bias file is refused, state.bin is no state or has another table or bias file, or a file of
  * products ends with a part of one; 2 where the arguments are wrong or something else than a line on standard
- * error cannot be read or written. */
+ * error cannot be read or written, or the library has states of another size. */
 #define _POSIX_C_SOURCE 200809L
 
 #include <errno.h>

@@ -1,12 +1,12 @@
 """Archives of scan records, calibrated in pieces on several threads, to the bytes of one run over all records.
 
 A piece is one call of the library: records from before it, which its first windows reach back to, and then its own. By the restart law a
-product depends on the accepted records of its window alone, and the next accepted number is above the last one; so the records of the
-seven numbers up to the last accepted one do, and the last accepted one among them has the numbers refused as in one run.
+product depends on the accepted records of its window alone. The next accepted number is above the last one, so the accepted records of the
+seven numbers up to the last one are enough. The last one is among them, so that numbers are refused as in one run.
 
-Which records are accepted is the library's answer, here too. A piece is fed once without room for products: whatever the library then
-answers with 7 it would have accepted by its tags and lengths and by the last number before the piece. Among these is the greatest number,
-which is the last accepted one behind the piece. That a piece began with the right records is tested when its answers are there: those
+Which records are accepted is the library's answer, here too. A piece is fed once with room for the product of the last accepted record
+before it alone: whatever the library then answers with 7 it would have accepted by its tags and lengths and by the last number before the
+piece. Among these is the greatest number, which is the last accepted one behind the piece. That a piece began with the right records is tested when its answers are there: those
 that it accepted from before it must be those with which the piece before it ended.
 """
 import hashlib

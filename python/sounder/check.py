@@ -1,6 +1,6 @@
-"""Says what is wrong with a table or a bias file: every length, tag, value and sum that is out, and not the first alone.
+"""Says what is wrong with a table or a bias file: its length; else every tag and length in it; else every value and sum.
 
-Whether one is accepted the library decides. The lines come from the formats as data; where these are of another opinion, that is said.
+Whether one is accepted the library decides. The lines come from the formats as data; where these disagree with it, that is said.
 """
 from typing import NamedTuple
 

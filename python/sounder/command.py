@@ -11,8 +11,8 @@ from .files import ENDING, Results, Stream, contents, drop_unfinished, is_ready,
 from .library import BIAS_BYTES, TABLE_BYTES, Library, Missing, Refusal, version_words
 
 DESCRIPTION = 'Calibrates microwave sounder scans by the proved library.'
-STATUS = ('The exit status is 0 only where everything asked for is on disk or was written; 1 where something is refused or fails; 2 for '
-          'wrong usage.')
+STATUS = ('The exit status is 0 only where everything asked for is on disk or was written; 1 where a table, a bias file or a part is refused, '
+          'or something fails; 2 for wrong usage. A refused record is no failure.')
 
 
 class Ended(BaseException):
@@ -52,7 +52,7 @@ def print_out(text):
 
 
 class Help(argparse.HelpFormatter):
-    """Asks for the width of the terminal without what the parser would import for it."""
+    """Asks the terminal itself for its width; the parser would import a module for that."""
 
     def __init__(self, prog):
         try:
@@ -135,7 +135,7 @@ def parser():
         'that are there already, whole and made of the same, are not made again.'))
     calibrate.add_argument('--table', required=True, metavar='TABLE', help='the table')
     calibrate.add_argument('--bias', required=True, metavar='BIAS', help='the bias file')
-    calibrate.add_argument('--jobs', type=jobs, metavar='N', help='how many pieces are calibrated at a time (all processors)')
+    calibrate.add_argument('--jobs', type=jobs, metavar='N', help='how many pieces are calibrated at a time, 1 to 1024; if left out, as many as there are processors')
     calibrate.add_argument('--part', type=part, default=(1, 1), metavar='K/N', help='only part K of N; `sounder join` joins the parts')
     calibrate.add_argument('archives', nargs='*', metavar='ARCHIVE', help='files of records; - is standard input')
     calibrate.add_argument('-o', dest='out', default='-', metavar='OUT', help='the file of products; - is standard output, without a page')
@@ -147,7 +147,8 @@ def parser():
     join.add_argument('-o', dest='out', required=True, metavar='OUT', help='the file of products')
 
     check = added(commands, run_check, 'check', 'say what is wrong with a table or a bias file', (
-        "Prints the library's answer to a table and to a bias file, and of a refused one every length, tag or value that is wrong."))
+        "Prints the library's answer to a table and to a bias file. Of a refused one it says what is wrong: the length; if that is right, every "
+        'wrong tag or length in it; if these are right, every value and every sum outside its range.'))
     check.add_argument('table', metavar='TABLE', help='the table')
     check.add_argument('bias', nargs='?', metavar='BIAS', help='the bias file')
     return main
@@ -199,7 +200,7 @@ def test_written(words):
     for name, file in given:
         for other, place in written:
             if same_file(file, place) and os.path.isfile(file):
-                raise Failure(f'{other}: {name}, which is read, would be written')
+                raise Failure(f'{other}: {name}, which is read, would be written over')
 
 
 def run_calibrate(words):
@@ -214,7 +215,7 @@ def run_calibrate(words):
     records = archive.Archive(words.archives)
     for file in records.files:
         if words.part != (1, 1) and file.size() is None:
-            raise Failure(f'{shown(file.name)}: --part needs files, and how long this is is not known before')
+            raise Failure(f'{shown(file.name)}: --part needs files, and the length of this is not known before it is read')
     if words.out != '-':
         page = pages.is_whole(words.out, version, table, bias, records.files, words.part)
         if page:

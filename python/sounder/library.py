@@ -1,10 +1,10 @@
 """The library's functions, called through ctypes: include/sounder.h with buffers in place of pointers and lengths.
 
-A buffer is anything that has the buffer protocol: bytes, bytearray, memoryview, mmap, array, a NumPy array. It is not copied, but for a
-read-only one that is no bytes. What is written goes to a buffer that can be written. A ctypes call lets other threads run.
+A buffer is anything that has the buffer protocol: bytes, bytearray, memoryview, mmap, array, a NumPy array. It is not copied, unless it is
+read-only and no bytes object. What is written goes to a buffer that can be written. A ctypes call lets other threads run.
 
-An answer that is a refusal is raised as `Refusal`, with the operation, its number and plain words. The functions decide nothing
-themselves.
+A refusal is raised as `Refusal`, with the operation, its number and plain words; those of the records of a list are answers. The functions
+decide nothing themselves.
 """
 import ctypes
 import operator
@@ -28,7 +28,7 @@ WORDS = {
     1: 'its length is wrong',
     2: 'a tag or length in it is wrong',
     3: 'a value or a sum is outside its range',
-    4: "the record's length is not 4,648",
+    4: "the record's length is not 4,648 bytes",
     5: 'a tag or length in the record is wrong',
     6: "the record's number is not above the last accepted one",
     7: 'the buffer is shorter than 8,706 bytes',

@@ -148,12 +148,15 @@ def is_whole(out, version, table, bias, files, part):
 
 
 def test_replaced(out):
-    """Only results are replaced: products, or a file that has a page. A raw archive that a pattern of the shell puts behind -o is left."""
-    page = out + '.json'
-    if os.path.isfile(page) and not os.path.lexists(out):
+    """Only results are replaced: products, an empty file, or a file that has a page of products. A raw archive that a pattern of the shell
+    puts behind -o is left, and so is a page without products that is none."""
+    if os.path.isfile(out) and not has_products(out):
+        try:
+            read_page(out)
+        except Failure:
+            raise Failure(f'{shown(out)}: there is a file that has no products and no page; it is left as it is') from None
+    if os.path.isfile(out + '.json') and not os.path.lexists(out):
         read_page(out)
-    if os.path.isfile(out) and not os.path.lexists(page) and not has_products(out):
-        raise Failure(f'{shown(out)}: there is a file that has no products and no page; it is left as it is')
 
 
 def has_products(name):
@@ -203,7 +206,7 @@ def join(names, out):
     test_parts(names, pages)
     for name in (*names, *(name + '.json' for name in names)):
         if same_file(name, out) or same_file(name, out + '.json'):
-            raise Failure(f'{shown(out)}: {shown(name)}, which is read, would be written')
+            raise Failure(f'{shown(out)}: {shown(name)}, which is read, would be written over')
     test_replaced(out)
     results, total = Results(out), hashlib.sha256()
     for name, page in zip(names, pages):

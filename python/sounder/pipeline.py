@@ -9,7 +9,7 @@ from .failure import Failure
 class Pipeline:
     """Each slot that is put goes through `work` on one of `jobs` threads, and then through each of `takers`, which has a thread of its own
     and takes the slots in the order in which they were put. A slot that all have taken is free again. What one of them raises ends the
-    pipeline, and is raised to whoever waits for a slot. The threads are daemons: none outlives the process, not even one that waits for a
+    pipeline, and is raised to whoever waits for a slot. The threads end with the process, even one that waits for a
     reader of standard output."""
 
     def __init__(self, slots, work, takers, jobs):

@@ -14,7 +14,7 @@ JOBS = ('1', '2', '5')
 
 
 class Generator(Case):
-    """The archives tell a right runner from a wrong one."""
+    """The archives tell a right command from a wrong one."""
 
     def test_bias_and_shelves_count(self):
         expected = expected_of(gapped())

@@ -119,7 +119,7 @@ class Places(PlaceCase):
 
     def test_a_file_of_before(self):
         """Is replaced as a whole: who has it open keeps what it was."""
-        self.put('out', b'before')
+        self.put('out', expected_of(plain(8)).products)
         self.put('out.json', b'before')
         with open(self.at('out'), 'rb') as before:
             self.made('out')
@@ -136,6 +136,8 @@ class Places(PlaceCase):
     def test_what_is_no_result(self):
         """A raw archive that a pattern of the shell puts behind -o is left, and so is a file with the name of the page."""
         self.put('day1.bin', plain(8))
+        self.refused('day1.bin', 'left as it is')
+        self.put('day1.bin.json', b'{"mine": 1}')
         self.refused('day1.bin', 'left as it is')
         self.put('other.json', b'{"mine": 1}')
         self.refused('other', 'this is no page of products', named='other.json')
