@@ -123,7 +123,7 @@ class Places(PlaceCase):
         self.put('out.json', b'before')
         with open(self.at('out'), 'rb') as before:
             self.made('out')
-            self.assertEqual(before.read(), b'before')
+            self.assertEqual(before.read(), expected_of(plain(8)).products)
 
     def test_a_folder_that_is_gone(self):
         """A run in a folder that was removed: its results have no place."""
