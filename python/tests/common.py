@@ -25,7 +25,7 @@ COMMAND = [sys.executable, '-IS', os.path.join(ROOT, 'tools', 'sounder')]
 RECORD, PRODUCT = 4_648, 8_706
 LAST_NUMBER = 2**32 - 1
 # How long anything may take that takes no time unless something is wrong.
-PATIENCE = 60
+PATIENCE = 300
 
 
 def memory():

@@ -68,8 +68,12 @@ class Beside(RunCase):
         for number in range(24):
             # On a disk where each name takes its time, and as it is.
             program = SLOW if number % 4 else common.COMMAND
-            runs = [self.start('calibrate', '--table', name, '--bias', 'bias.bin', '-o', 'out', 'scans.bin', program=program)
-                    for name in ('table.bin', 'other.bin')]
+            runs = []
+            for name in ('table.bin', 'other.bin')[::-1 if number % 2 else 1]:
+                runs.append(self.start('calibrate', '--table', name, '--bias', 'bias.bin', '-o', 'out', 'scans.bin', program=program))
+                # In the first two rounds one run has ended before the other begins, so that each is the last once.
+                if number < 2:
+                    runs[-1].wait(common.PATIENCE)
             for ran in map(ended, runs):
                 self.assertEqual((ran.status, len(ran.lines)), (0, 1), ran)
             found.add(sum(map(ord, self.assert_belong('out', *both).table.hex())))
@@ -289,7 +293,8 @@ class Signals(RunCase):
         for number in range(40):
             process = self.start(*words, program=programs[number % 2])
             wait_until(lambda: self.unfinished() or os.path.exists(self.at('out')), 'a file')
-            time.sleep(rng.uniform(0, most[number % 2]))
+            # The first signal comes at once, and the second behind the end.
+            time.sleep(rng.uniform(0, most[number % 2]) if number > 1 else number * (1 + 3 * most[1]))
             ending = rng.choice((signal.SIGTERM, signal.SIGHUP, signal.SIGINT))
             os.kill(process.pid, ending)
             ran = ended(process)
@@ -409,7 +414,11 @@ class Killed(RunCase):
         most = [self.took(*words, program=program)[0] * 1.2 for program in programs]
         for number in range(40):
             process = self.start(*words, program=programs[number % 2])
-            time.sleep(rng.uniform(0.3, 1) * most[number % 2])
+            # The first moment is before a file is there, the second behind the end, the third while the files are written.
+            if number == 2:
+                wait_until(self.unfinished, 'a file')
+            else:
+                time.sleep(rng.uniform(0.3, 1) * most[number % 2] if number > 2 else number * (1 + 3 * most[1]))
             process.kill()
             ended(process)
             self.assert_honest('out', new, old)
