@@ -294,7 +294,10 @@ class Signals(RunCase):
             process = self.start(*words, program=programs[number % 2])
             wait_until(lambda: self.unfinished() or os.path.exists(self.at('out')), 'a file')
             # The first signal comes at once, and the second behind the end.
-            time.sleep(rng.uniform(0, most[number % 2]) if number > 1 else number * (1 + 3 * most[1]))
+            if number == 1:
+                os.waitid(os.P_PID, process.pid, os.WEXITED | os.WNOWAIT)
+            elif number > 1:
+                time.sleep(rng.uniform(0, most[number % 2]))
             ending = rng.choice((signal.SIGTERM, signal.SIGHUP, signal.SIGINT))
             os.kill(process.pid, ending)
             ran = ended(process)
@@ -415,10 +418,12 @@ class Killed(RunCase):
         for number in range(40):
             process = self.start(*words, program=programs[number % 2])
             # The first moment is before a file is there, the second behind the end, the third while the files are written.
-            if number == 2:
+            if number == 1:
+                process.wait(common.PATIENCE)
+            elif number == 2:
                 wait_until(self.unfinished, 'a file')
-            else:
-                time.sleep(rng.uniform(0.3, 1) * most[number % 2] if number > 2 else number * (1 + 3 * most[1]))
+            elif number > 2:
+                time.sleep(rng.uniform(0.3, 1) * most[number % 2])
             process.kill()
             ended(process)
             self.assert_honest('out', new, old)
