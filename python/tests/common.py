@@ -354,7 +354,8 @@ class Case(unittest.TestCase):
 
     @staticmethod
     def _end(process):
-        with contextlib.suppress(OSError):
+        # Of one that has ended already the number may be another's by now.
+        if process.poll() is None:
             os.killpg(process.pid, signal.SIGKILL)
         for stream in (process.stdin, process.stdout, process.stderr):
             if stream:
