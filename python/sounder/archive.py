@@ -6,8 +6,8 @@ seven numbers up to the last one are enough. The last one is among them, so that
 
 Which records are accepted is the library's answer, here too. A piece is fed once with room for the product of the last accepted record
 before it alone: whatever the library then answers with 7 it would have accepted by its tags and lengths and by the last number before the
-piece. Among these is the greatest number, which is the last accepted one behind the piece. That a piece began with the right records is tested when its answers are there: those
-that it accepted from before it must be those with which the piece before it ended.
+piece. Among these is the greatest number, which is the last accepted one behind the piece. That a piece began with the right records is
+tested when its answers are there: those that it accepted from before it must be those with which the piece before it ended.
 """
 import hashlib
 import mmap
@@ -181,12 +181,12 @@ class Piece:
 
     def product_rows(self):
         """The products of the own records, as rows that stand in one piece."""
-        for answer, begin, end in runs(self.given[len(self.before):]):
+        for answer, begin, end in rows_of(self.given[len(self.before):]):
             if answer == 0:
                 yield self.products[(NUMBERS + begin) * PRODUCT_BYTES:(NUMBERS + end) * PRODUCT_BYTES]
 
 
-def runs(answers):
+def rows_of(answers):
     """Rows of equal answers: the answer, the first place, and the one behind the last."""
     begin = 0
     for answer, row in groupby(answers):
@@ -257,7 +257,7 @@ class Tally:
         began = [(record.place, record.number) for record, answer in zip(piece.before, before) if answer == 0]
         if began != self.ended:
             raise Failure(f'{piece.words(0)}: the records fed before it are {began}, and those accepted before it are {self.ended}')
-        for answer, begin, end in runs(own):
+        for answer, begin, end in rows_of(own):
             if answer == 0:
                 self.products += end - begin
             elif answer in REFUSALS:
@@ -299,7 +299,7 @@ def bounds(part, records):
 def size_of_next(place, left, jobs):
     """How many records the next piece has: few at the beginning and at the end, so that no thread waits long for its first piece, nor for
     the last of another."""
-    return int(min(PIECE, left, max(SMALL_PIECE, min(place, left // (4 * jobs)))))
+    return int(min(PIECE, left, max(SMALL_PIECE, min(place, left / (4 * jobs)))))
 
 
 def read_pieces(archive, low, high, jobs, pipeline):

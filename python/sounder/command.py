@@ -11,8 +11,8 @@ from .files import ENDING, Results, Stream, contents, drop_unfinished, is_ready,
 from .library import BIAS_BYTES, TABLE_BYTES, Library, Missing, Refusal, version_words
 
 DESCRIPTION = 'Calibrates microwave sounder scans by the proved library.'
-STATUS = ('The exit status is 0 only where everything asked for is on disk or was written; 1 where a table, a bias file or a part is refused, '
-          'or something fails; 2 for wrong usage. A refused record is no failure.')
+STATUS = ('The exit status is 0 only where everything asked for is on disk or was written; 1 where a table, a bias file or a part is '
+          'refused, or something fails; 2 for wrong usage. A refused record is no failure.')
 
 
 class Ended(BaseException):
@@ -135,7 +135,8 @@ def parser():
         'that are there already, whole and made of the same, are not made again.'))
     calibrate.add_argument('--table', required=True, metavar='TABLE', help='the table')
     calibrate.add_argument('--bias', required=True, metavar='BIAS', help='the bias file')
-    calibrate.add_argument('--jobs', type=jobs, metavar='N', help='how many pieces are calibrated at a time, 1 to 1024; if left out, as many as there are processors')
+    calibrate.add_argument('--jobs', type=jobs, metavar='N', help=(
+        'how many pieces are calibrated at a time, 1 to 1024; if left out, as many as there are processors'))
     calibrate.add_argument('--part', type=part, default=(1, 1), metavar='K/N', help='only part K of N; `sounder join` joins the parts')
     calibrate.add_argument('archives', nargs='*', metavar='ARCHIVE', help='files of records; - is standard input')
     calibrate.add_argument('-o', dest='out', default='-', metavar='OUT', help='the file of products; - is standard output, without a page')
@@ -147,8 +148,8 @@ def parser():
     join.add_argument('-o', dest='out', required=True, metavar='OUT', help='the file of products')
 
     check = added(commands, run_check, 'check', 'say what is wrong with a table or a bias file', (
-        "Prints the library's answer to a table and to a bias file. Of a refused one it says what is wrong: the length; if that is right, every "
-        'wrong tag or length in it; if these are right, every value and every sum outside its range.'))
+        "Prints the library's answer to a table and to a bias file. Of a refused one it says what is wrong: the length; if that is right, "
+        'every wrong tag or length in it; if these are right, every value and every sum outside its range.'))
     check.add_argument('table', metavar='TABLE', help='the table')
     check.add_argument('bias', nargs='?', metavar='BIAS', help='the bias file')
     return main
@@ -165,7 +166,7 @@ def run_check(words):
     return 0 if passed else 1
 
 
-def opened(library, kind, name, size):
+def accepted(library, kind, name, size):
     """The bytes of a table or bias file that the library accepts."""
     content = contents(name, size)
     try:
@@ -210,14 +211,14 @@ def run_calibrate(words):
     test_written(words)
     library = Library()
     version = version_words(library.version())
-    table = opened(library, 'table', words.table, TABLE_BYTES)
-    bias = opened(library, 'bias', words.bias, BIAS_BYTES)
+    table = accepted(library, 'table', words.table, TABLE_BYTES)
+    bias = accepted(library, 'bias', words.bias, BIAS_BYTES)
     records = archive.Archive(words.archives)
     for file in records.files:
         if words.part != (1, 1) and file.size() is None:
             raise Failure(f'{shown(file.name)}: --part needs files, and the length of this is not known before it is read')
     if words.out != '-':
-        page = pages.is_whole(words.out, version, table, bias, records.files, words.part)
+        page = pages.whole_page(words.out, version, table, bias, records.files, words.part)
         if page:
             say(f'{shown(words.out)}: {pages.counts(page)}; it was there and is whole')
             return 0

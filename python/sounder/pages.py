@@ -127,7 +127,7 @@ def sum_of_file(name):
     return total.hexdigest()
 
 
-def is_whole(out, version, table, bias, files, part):
+def whole_page(out, version, table, bias, files, part):
     """The page of products that are there already, whole, and made by this version of this table, bias file, archive and part; else
     None. The page is asked first, and then the bytes."""
     try:

@@ -9,13 +9,13 @@ from .failure import Failure
 class Pipeline:
     """Each slot that is put goes through `work` on one of `jobs` threads, and then through each of `takers`, which has a thread of its own
     and takes the slots in the order in which they were put. A slot that all have taken is free again. What one of them raises ends the
-    pipeline, and is raised to whoever waits for a slot. The threads end with the process, even one that waits for a
-    reader of standard output."""
+    pipeline, and is raised to whoever waits for a slot. The threads end with the process, even one that waits for a reader of standard
+    output."""
 
     def __init__(self, slots, work, takers, jobs):
         self.slots, self.work, self.jobs, self.failure = slots, work, jobs, None
         # The slot that was freed last comes first: its memory is at hand.
-        self.todo, self.free = SimpleQueue(), LifoQueue()
+        self.waiting, self.free = SimpleQueue(), LifoQueue()
         self.orders = [SimpleQueue() for _ in takers]
         for slot in slots:
             self.free.put(slot)
@@ -41,7 +41,7 @@ class Pipeline:
     def put(self, slot):
         slot.worked = threading.Event()
         self.orders[0].put(slot)
-        self.todo.put(slot)
+        self.waiting.put(slot)
 
     def give_back(self, slot):
         """Of a slot that is not put."""
@@ -55,7 +55,7 @@ class Pipeline:
 
     def stop(self):
         """Ends the threads, each with what it is at."""
-        for queue in [self.todo] * self.jobs + self.orders:
+        for queue in [self.waiting] * self.jobs + self.orders:
             queue.put(None)
 
     def _guarded(self, loop, *words):
@@ -66,7 +66,7 @@ class Pipeline:
             self.free.put(None)
 
     def _work(self):
-        while (slot := self.todo.get()) is not None:
+        while (slot := self.waiting.get()) is not None:
             self.work(slot)
             slot.worked.set()
 
