@@ -11,48 +11,48 @@ use Rattle.integers.specs.Rounding.{floor}
 use Rattle.lists.specs.Build.{tabulate}
 use Rattle.lists.specs.Count.{count, every}
 use Rattle.lists.specs.Sum.{sum}
-use Rattle.lists.proofs.Tabulate.{each-of-same}
+use Rattle.lists.proofs.Tabulate.{each_of_same}
 use Rattle.thermometer.specs.Rule.{M, q, s1, y, w, h, s2, F}
 use Rattle.thermometer.specs.Reading.{Result, units, notRead, reading}
-use Rattle.thermometer.proofs.Bench.{answer-at-place, bench-reading}
+use Rattle.thermometer.proofs.Bench.{answer_at_place, bench_reading}
 use Rattle.instrument.specs.declared.Side.{Side}
 use Rattle.instrument.specs.declared.Side.TheVariants.{Warm, Cold}
 use Rattle.instrument.specs.declared.Target.{Target}
 use Rattle.instrument.specs.declared.Target.TheVariants.{Kav, Wg}
-use Rattle.instrument.specs.Instrument.{channels, firstOf, size_of, target_of}
+use Rattle.instrument.specs.Instrument.{channels, first_of, size_of, target_of}
 use Rattle.table.specs.Settings.{Settings}
-use Rattle.table.specs.Ranges.{leastsInside, thermometerLimitsInside, channelInside, pairInside, sumsInside, valuesInside}
-use Rattle.bias.specs.Opening.{partInside}
-use Rattle.samples.specs.Good.{differs, good, chosenTo, goodSamples, at_least}
+use Rattle.table.specs.Ranges.{leasts_inside, thermometer_limits_inside, channel_inside, pair_inside, sums_inside, values_inside}
+use Rattle.bias.specs.Opening.{part_inside}
+use Rattle.samples.specs.Good.{differs, good, chosen_to, good_samples, at_least}
 use Rattle.acceptance.specs.declared.Scan.{Scan}
-use Rattle.acceptance.specs.Counts.{fourCounts, withinLimits, withoutOverlap, acceptedSides}
-use Rattle.acceptance.specs.Kept.{keptScan}
-use Rattle.record.specs.Record.{scanNumber}
-use Rattle.acceptance.specs.Accepted.{readingAt, inKelvin, inLimits, acceptedThermometers, acceptedCounts}
-use Rattle.window.specs.Ages.{noScan}
-use Rattle.window.specs.Sums.{weightSum, valueSum, thermometerWeights, thermometerSum, meansFrom, meansOf}
-use Rattle.window.specs.Means.{flagOf}
-use Rattle.calibrator.specs.Feeding.{keptBy}
-use Rattle.promise.specs.Outcomes.{fedMoment}
-use Rattle.promise.specs.Moments.{meansAt}
-use Rattle.promise.proofs.RollLaws.{scanOfAge}
-use Rattle.promise.proofs.SampleLaws.{means-at-is}
-use Rattle.bench.specs.Bench.{benchTable, benchScan, benchSettings, instrumentBytes, samplesAt}
-use Rattle.bench.specs.Witnesses.{numberedScan}
-use Rattle.bench.specs.Boundaries.{BothSides, BothTargets, endPart, withTLow, withTUpp, withDT, instrumentWith, evenWeights, sumsOfScans, RangeRows, ReadingEnds, ThermometerRows, CountRows, FlagRows, AgeRows, BoundaryRows}
-use Rattle.bench.proofs.BenchScan.{benchSides, benchKept, accepted-by-readings, samples-by}
+use Rattle.acceptance.specs.Counts.{four_counts, within_limits, without_overlap, accepted_sides}
+use Rattle.acceptance.specs.Kept.{kept_scan}
+use Rattle.record.specs.Record.{scan_number}
+use Rattle.acceptance.specs.Accepted.{reading_at, in_kelvin, in_limits, accepted_thermometers, accepted_counts}
+use Rattle.window.specs.Ages.{no_scan}
+use Rattle.window.specs.Sums.{weight_sum, value_sum, thermometer_weights, thermometer_sum, means_from, means_of}
+use Rattle.window.specs.Means.{flag_of}
+use Rattle.calibrator.specs.Feeding.{kept_by}
+use Rattle.promise.specs.Outcomes.{fed_moment}
+use Rattle.promise.specs.Moments.{means_at}
+use Rattle.promise.proofs.RollLaws.{scan_of_age}
+use Rattle.promise.proofs.SampleLaws.{means_at_is}
+use Rattle.bench.specs.Bench.{bench_table, bench_scan, bench_settings, instrument_bytes, samples_at}
+use Rattle.bench.specs.Witnesses.{numbered_scan}
+use Rattle.bench.specs.Boundaries.{BothSides, BothTargets, endPart, with_tLow, with_tUpp, with_dT, instrument_with, even_weights, sums_of_scans, RangeRows, ReadingEnds, ThermometerRows, CountRows, FlagRows, AgeRows, BoundaryRows}
+use Rattle.bench.proofs.BenchScan.{bench_sides, bench_kept_lem, accepted_by_readings, samples_by}
 
 -- ---- the ranges of a table and of a bias file
 
-range-rows : RangeRows
-unfolding partInside endPart valuesInside leastsInside thermometerLimitsInside channelInside pairInside sumsInside every sum
-range-rows = record { low-ends = refl; high-ends = refl; bias-low-ends = refl; bias-high-ends = refl }
+range_rows : RangeRows
+unfolding part_inside endPart values_inside leasts_inside thermometer_limits_inside channel_inside pair_inside sums_inside every sum
+range_rows = record { low-ends = refl; high-ends = refl; bias-low-ends = refl; bias-high-ends = refl }
 
 -- ---- counts and flags
 
-count-rows : CountRows
-unfolding tabulate acceptedCounts fourCounts withinLimits acceptedSides withoutOverlap good differs count chosenTo
-count-rows = record {
+count_rows : CountRows
+unfolding tabulate accepted_counts four_counts within_limits accepted_sides without_overlap good differs count chosen_to
+count_rows = record {
   low-at = (refl, refl);
   low-beyond = (refl, refl);
   upp-at = (refl, refl);
@@ -67,9 +67,9 @@ count-rows = record {
   overlap-beyond = (refl, refl);
 }
 
-flag-rows : FlagRows
-unfolding benchTable flagOf sum
-flag-rows = record {
+flag_rows : FlagRows
+unfolding bench_table flag_of sum
+flag_rows = record {
   percentages-at = (refl, refl);
   thermometers-less = (refl, refl);
   warm-less = (refl, refl);
@@ -87,125 +87,125 @@ flag-rows = record {
 
 -- ---- thermometers
 
-reading-ends : ReadingEnds
+reading_ends : ReadingEnds
 unfolding reading M F s1 s2 h w y q floor
-reading-ends = record { m-low-at = refl; m-low-beyond = refl; m-high-at = refl; m-high-beyond = refl }
+reading_ends = record { m-low-at = refl; m-low-beyond = refl; m-high-at = refl; m-high-beyond = refl }
 
-abbrev benchReading : ℕ → Result
-benchReading count = reading 2000000 2000000 3850000 1500000 0 20000 0 count
+abbrev bench_reading_lem : ℕ → Result
+bench_reading_lem count = reading 2000000 2000000 3850000 1500000 0 20000 0 count
 
-F-at-104 : F 3850000 1500000 0 (pos 104) ≡ pos 16778880
+F_at_104 : F 3850000 1500000 0 (pos 104) ≡ pos 16778880
 unfolding F s1 s2 h w y q floor
-F-at-104 = refl
+F_at_104 = refl
 
-F-at-105 : F 3850000 1500000 0 (pos 105) ≡ pos 16778896
+F_at_105 : F 3850000 1500000 0 (pos 105) ≡ pos 16778896
 unfolding F s1 s2 h w y q floor
-F-at-105 = refl
+F_at_105 = refl
 
 -- 104 is at place 245,864
-higher-reading : benchReading 20002 ≡ units (pos 104)
+higher_reading : bench_reading_lem 20002 ≡ units (pos 104)
 unfolding reading M F s1 s2 h w y q floor
-higher-reading = ap units (answer-at-place 245864 (pos 16778893) (omega arith) F-at-104 F-at-105 (le_z_yes tt) (lt_z_yes tt))
+higher_reading = ap units (answer_at_place 245864 (pos 16778893) (omega arith) F_at_104 F_at_105 (le_z_yes tt) (lt_z_yes tt))
 
-no-reading : benchReading 0 ≡ notRead 10
+no_reading : bench_reading_lem 0 ≡ notRead 10
 unfolding reading M F s1 s2 h w y q floor
-no-reading = refl
+no_reading = refl
 
 -- the accepted thermometers of a target under settings with the bench's coefficients, from what the counts read
 module _ (s : Settings) (value : List ℕ) (target : Target) where
   abbrev AcceptedBy : (ℕ → Result) → Type 0
   AcceptedBy read =
-      acceptedThermometers s value target
-      ≡ at_least (s.least target) (goodSamples (tabulate (λ i. inKelvin (read i)) (size_of target)) (tabulate (λ i. inLimits s (read i)) (size_of target)) s.dT)
+      accepted_thermometers s value target
+      ≡ at_least (s.least target) (good_samples (tabulate (λ i. in_kelvin (read i)) (size_of target)) (tabulate (λ i. in_limits s (read i)) (size_of target)) s.dT)
 
   abbrev Reads : (ℕ → ℕ) → Type 0
-  Reads count = tabulate (λ i. readingAt s value (firstOf target + i)) (size_of target) ≡ tabulate (λ i. benchReading (count i)) (size_of target)
+  Reads count = tabulate (λ i. reading_at s value (first_of target + i)) (size_of target) ≡ tabulate (λ i. bench_reading_lem (count i)) (size_of target)
 
-  all-at-zero : Reads (λ i. 20000) → AcceptedBy (λ i. units (pos 0))
-  all-at-zero same = accepted-by-readings s value target (λ i. units (pos 0)) (λ i inside. each-of-same _ _ (size_of target) same i inside ∙ bench-reading)
+  all_at_zero : Reads (λ i. 20000) → AcceptedBy (λ i. units (pos 0))
+  all_at_zero same = accepted_by_readings s value target (λ i. units (pos 0)) (λ i inside. each_of_same _ _ (size_of target) same i inside ∙ bench_reading)
 
-  first-and-others : (n count other : ℕ) (one two : Result) → benchReading count ≡ one → benchReading other ≡ two → Reads (λ i. cond (ltb i n) count other) → AcceptedBy (λ i. cond (ltb i n) one two)
-  first-and-others n count other one two is_one is-two same =
-      accepted-by-readings s value target (λ i. cond (ltb i n) one two) (λ i inside. each-of-same _ _ (size_of target) same i inside ∙ by-test (ltb i n))
+  first_and_others : (n count other : ℕ) (one two : Result) → bench_reading_lem count ≡ one → bench_reading_lem other ≡ two → Reads (λ i. cond (ltb i n) count other) → AcceptedBy (λ i. cond (ltb i n) one two)
+  first_and_others n count other one two is_one is-two same =
+      accepted_by_readings s value target (λ i. cond (ltb i n) one two) (λ i inside. each_of_same _ _ (size_of target) same i inside ∙ by_test (ltb i n))
     where
-      by-test : (first : Bool) → benchReading (cond first count other) ≡ cond first one two
-      by-test true = is_one
-      by-test false = is-two
+      by_test : (first : Bool) → bench_reading_lem (cond first count other) ≡ cond first one two
+      by_test true = is_one
+      by_test false = is-two
 
 -- one is 104 above the others
-some-higher : (s : Settings) (n : ℕ) (target : Target) → Reads s (instrumentWith n 20002 20000) target (λ i. cond (ltb i n) 20002 20000)
-    → AcceptedBy s (instrumentWith n 20002 20000) target (λ i. cond (ltb i n) (units (pos 104)) (units (pos 0)))
-some-higher s n target = first-and-others s (instrumentWith n 20002 20000) target n 20002 20000 (units (pos 104)) (units (pos 0)) higher-reading bench-reading
+some_higher : (s : Settings) (n : ℕ) (target : Target) → Reads s (instrument_with n 20002 20000) target (λ i. cond (ltb i n) 20002 20000)
+    → AcceptedBy s (instrument_with n 20002 20000) target (λ i. cond (ltb i n) (units (pos 104)) (units (pos 0)))
+some_higher s n target = first_and_others s (instrument_with n 20002 20000) target n 20002 20000 (units (pos 104)) (units (pos 0)) higher_reading bench_reading
 
 -- n are read
-some_read : (n : ℕ) (target : Target) → Reads benchSettings (instrumentWith n 20000 0) target (λ i. cond (ltb i n) 20000 0)
-    → AcceptedBy benchSettings (instrumentWith n 20000 0) target (λ i. cond (ltb i n) (units (pos 0)) (notRead 10))
-some_read n target = first-and-others benchSettings (instrumentWith n 20000 0) target n 20000 0 (units (pos 0)) (notRead 10) bench-reading no-reading
+some_read : (n : ℕ) (target : Target) → Reads bench_settings (instrument_with n 20000 0) target (λ i. cond (ltb i n) 20000 0)
+    → AcceptedBy bench_settings (instrument_with n 20000 0) target (λ i. cond (ltb i n) (units (pos 0)) (notRead 10))
+some_read n target = first_and_others bench_settings (instrument_with n 20000 0) target n 20000 0 (units (pos 0)) (notRead 10) bench_reading no_reading
 
-thermometer-rows : ThermometerRows
-unfolding benchTable instrumentBytes instrumentWith tabulate good differs count chosenTo
-thermometer-rows = record {
-  low-at = (all-at-zero (withTLow 0) instrumentBytes Kav refl, all-at-zero (withTLow 0) instrumentBytes Wg refl);
-  low-beyond = (all-at-zero (withTLow 1) instrumentBytes Kav refl, all-at-zero (withTLow 1) instrumentBytes Wg refl);
-  upp-at = (all-at-zero (withTUpp 0) instrumentBytes Kav refl, all-at-zero (withTUpp 0) instrumentBytes Wg refl);
-  upp-beyond = (all-at-zero (withTUpp 0xFFFF_FFFF) instrumentBytes Kav refl, all-at-zero (withTUpp 0xFFFF_FFFF) instrumentBytes Wg refl);
-  difference-at = (some-higher (withDT 104) 1 Kav refl, some-higher (withDT 104) 1 Wg refl);
-  difference-beyond = (some-higher (withDT 103) 1 Kav refl, some-higher (withDT 103) 1 Wg refl);
-  two-beyond = (some-higher (withDT 103) 2 Kav refl, some-higher (withDT 103) 2 Wg refl);
+thermometer_rows : ThermometerRows
+unfolding bench_table instrument_bytes instrument_with tabulate good differs count chosen_to
+thermometer_rows = record {
+  low-at = (all_at_zero (with_tLow 0) instrument_bytes Kav refl, all_at_zero (with_tLow 0) instrument_bytes Wg refl);
+  low-beyond = (all_at_zero (with_tLow 1) instrument_bytes Kav refl, all_at_zero (with_tLow 1) instrument_bytes Wg refl);
+  upp-at = (all_at_zero (with_tUpp 0) instrument_bytes Kav refl, all_at_zero (with_tUpp 0) instrument_bytes Wg refl);
+  upp-beyond = (all_at_zero (with_tUpp 0xFFFF_FFFF) instrument_bytes Kav refl, all_at_zero (with_tUpp 0xFFFF_FFFF) instrument_bytes Wg refl);
+  difference-at = (some_higher (with_dT 104) 1 Kav refl, some_higher (with_dT 104) 1 Wg refl);
+  difference-beyond = (some_higher (with_dT 103) 1 Kav refl, some_higher (with_dT 103) 1 Wg refl);
+  two-beyond = (some_higher (with_dT 103) 2 Kav refl, some_higher (with_dT 103) 2 Wg refl);
   least_at = (some_read 5 Kav refl, some_read 4 Wg refl);
   least-beyond = (some_read 4 Kav refl, some_read 3 Wg refl);
 }
 
 -- ---- ages
 
-even-thermometers : (target : Target) → acceptedThermometers evenWeights instrumentBytes target ≡ samplesAt (size_of target) 1118822
-unfolding benchTable instrumentBytes tabulate good differs count chosenTo
-even-thermometers Kav = all-at-zero evenWeights instrumentBytes Kav refl
-even-thermometers Wg = all-at-zero evenWeights instrumentBytes Wg refl
+even_thermometers : (target : Target) → accepted_thermometers even_weights instrument_bytes target ≡ samples_at (size_of target) 1118822
+unfolding bench_table instrument_bytes tabulate good differs count chosen_to
+even_thermometers Kav = all_at_zero even_weights instrument_bytes Kav refl
+even_thermometers Wg = all_at_zero even_weights instrument_bytes Wg refl
 
-bench-kept-evenly : keptBy evenWeights (benchScan 15000) ≡ benchKept
-unfolding benchTable benchScan keptScan tabulate acceptedCounts fourCounts withinLimits acceptedSides withoutOverlap good differs count chosenTo
-bench-kept-evenly = ap keptScan (samples-by evenWeights (benchScan 15000) benchSides even-thermometers refl refl)
+bench_kept_evenly : kept_by even_weights (bench_scan 15000) ≡ bench_kept_lem
+unfolding bench_table bench_scan kept_scan tabulate accepted_counts four_counts within_limits accepted_sides without_overlap good differs count chosen_to
+bench_kept_evenly = ap kept_scan (samples_by even_weights (bench_scan 15000) bench_sides even_thermometers refl refl)
 
-numbered-kept-evenly : (number : ℕ) → keptBy evenWeights (numberedScan number 15000) ≡ benchKept
-unfolding benchTable numberedScan keptScan tabulate acceptedCounts fourCounts withinLimits acceptedSides withoutOverlap good differs count chosenTo
-numbered-kept-evenly number = ap keptScan (samples-by evenWeights (numberedScan number 15000) benchSides even-thermometers refl refl)
+numbered_kept_evenly : (number : ℕ) → kept_by even_weights (numbered_scan number 15000) ≡ bench_kept_lem
+unfolding bench_table numbered_scan kept_scan tabulate accepted_counts four_counts within_limits accepted_sides without_overlap good differs count chosen_to
+numbered_kept_evenly number = ap kept_scan (samples_by even_weights (numbered_scan number 15000) bench_sides even_thermometers refl refl)
 
 -- the scans by age at a number after 7
-abbrev twoScans : ℕ → ℕ → Scan
-twoScans number k = cond (eqb (number + k) number) benchKept (cond (eqb (7 + k) number) benchKept noScan)
+abbrev two_scans : ℕ → ℕ → Scan
+two_scans number k = cond (eqb (number + k) number) bench_kept_lem (cond (eqb (7 + k) number) bench_kept_lem no_scan)
 
-means-at-number : (number c : ℕ) → c < channels
-    → meansAt evenWeights (fedMoment (benchScan 15000 ∷ []) (numberedScan number 15000)) c ≡ meansOf evenWeights (twoScans (scanNumber (numberedScan number 15000))) c
-unfolding scanOfAge benchScan
-means-at-number number c below =
-    let at = scanNumber (numberedScan number 15000) in
-    means-at-is evenWeights (fedMoment (benchScan 15000 ∷ []) (numberedScan number 15000)) c below
-    ∙ ap₂ (λ (kept older : Scan). meansOf evenWeights (λ k. cond (eqb (at + k) at) kept (cond (eqb (7 + k) at) older noScan)) c) (numbered-kept-evenly number) bench-kept-evenly
+means_at_number : (number c : ℕ) → c < channels
+    → means_at even_weights (fed_moment (bench_scan 15000 ∷ []) (numbered_scan number 15000)) c ≡ means_of even_weights (two_scans (scan_number (numbered_scan number 15000))) c
+unfolding scan_of_age bench_scan
+means_at_number number c below =
+    let at = scan_number (numbered_scan number 15000) in
+    means_at_is even_weights (fed_moment (bench_scan 15000 ∷ []) (numbered_scan number 15000)) c below
+    ∙ ap₂ (λ (kept older : Scan). means_of even_weights (λ k. cond (eqb (at + k) at) kept (cond (eqb (7 + k) at) older no_scan)) c) (numbered_kept_evenly number) bench_kept_evenly
 
-age-rows : AgeRows
-unfolding benchTable numberedScan tabulate meansFrom weightSum valueSum thermometerWeights thermometerSum sum noScan
-age-rows = record {
-  age-at = λ c below. means-at-number 14 c below ∙ each-of-same (meansOf evenWeights (twoScans 14)) (λ c. sumsOfScans 2 (target_of c)) channels refl c below;
-  age-beyond = λ c below. means-at-number 15 c below ∙ each-of-same (meansOf evenWeights (twoScans 15)) (λ c. sumsOfScans 1 (target_of c)) channels refl c below;
+age_rows : AgeRows
+unfolding bench_table numbered_scan tabulate means_from weight_sum value_sum thermometer_weights thermometer_sum sum no_scan
+age_rows = record {
+  age-at = λ c below. means_at_number 14 c below ∙ each_of_same (means_of even_weights (two_scans 14)) (λ c. sums_of_scans 2 (target_of c)) channels refl c below;
+  age-beyond = λ c below. means_at_number 15 c below ∙ each_of_same (means_of even_weights (two_scans 15)) (λ c. sums_of_scans 1 (target_of c)) channels refl c below;
 }
 
-pub boundary-rows : BoundaryRows
-boundary-rows = record { ranges = range-rows; readings = reading-ends; thermometers = thermometer-rows; counts = count-rows; flags = flag-rows; ages = age-rows }
+pub boundary_rows : BoundaryRows
+boundary_rows = record { ranges = range_rows; readings = reading_ends; thermometers = thermometer_rows; counts = count_rows; flags = flag_rows; ages = age_rows }
 
 -- ---- the rows of ages are those of every channel
 
-pub ages-say : (c : ℕ) → c < 22
-    → (meansAt evenWeights (fedMoment (benchScan 15000 ∷ []) (numberedScan 14 15000)) c ≡ sumsOfScans 2 (target_of c))
-    × (meansAt evenWeights (fedMoment (benchScan 15000 ∷ []) (numberedScan 15 15000)) c ≡ sumsOfScans 1 (target_of c))
-ages-say c below = (boundary-rows.ages.age-at c below, boundary-rows.ages.age-beyond c below)
+pub ages_say : (c : ℕ) → c < 22
+    → (means_at even_weights (fed_moment (bench_scan 15000 ∷ []) (numbered_scan 14 15000)) c ≡ sums_of_scans 2 (target_of c))
+    × (means_at even_weights (fed_moment (bench_scan 15000 ∷ []) (numbered_scan 15 15000)) c ≡ sums_of_scans 1 (target_of c))
+ages_say c below = (boundary_rows.ages.age-at c below, boundary_rows.ages.age-beyond c below)
 
 -- ---- a row of both sides, or of both targets, is a row of each
 
-pub both-sides-say : (Row : Side → Type 0) → BothSides Row → (side : Side) → Row side
-both-sides-say Row both Warm = both.0
-both-sides-say Row both Cold = both.1
+pub both_sides_say : (Row : Side → Type 0) → BothSides Row → (side : Side) → Row side
+both_sides_say Row both Warm = both.0
+both_sides_say Row both Cold = both.1
 
-pub both-targets-say : (Row : Target → Type 0) → BothTargets Row → (target : Target) → Row target
-both-targets-say Row both Kav = both.0
-both-targets-say Row both Wg = both.1
+pub both_targets_say : (Row : Target → Type 0) → BothTargets Row → (target : Target) → Row target
+both_targets_say Row both Kav = both.0
+both_targets_say Row both Wg = both.1

@@ -18,406 +18,406 @@ use Rattle.lists.specs.Build.{tabulate, cells}
 use Rattle.lists.specs.Count.{count}
 use Rattle.lists.specs.Sum.{sum}
 use Rattle.lists.specs.Tests.{Verdict, passes, fails}
-use Rattle.lists.proofs.Tabulate.{each-of-same}
-use Rattle.fields.specs.Fields.{fieldIsRight, layoutIsRight}
+use Rattle.lists.proofs.Tabulate.{each_of_same}
+use Rattle.fields.specs.Fields.{field_is_right, layout_is_right}
 use Rattle.instrument.specs.declared.Target.{Target}
 use Rattle.instrument.specs.declared.Target.TheVariants.{Kav, Wg}
 use Rattle.instrument.specs.Instrument.{channels, positions, target_of}
 use Rattle.table.specs.declared.Corrections.{Corrections}
-use Rattle.record.specs.Record.{recordLayout, scanNumber, recordSize}
-use Rattle.samples.specs.Good.{differs, good, chosenTo}
-use Rattle.bias.specs.Bias.{zeroBias}
-use Rattle.bias.proofs.Zeros.{zero-bias-accepted}
-use Rattle.acceptance.specs.Counts.{Sides, fourCounts, withinLimits, withoutOverlap, acceptedSides, noCounts}
-use Rattle.acceptance.specs.Accepted.{acceptedCounts, AcceptedSamples, acceptedSamples}
+use Rattle.record.specs.Record.{record_layout, scan_number, record_size}
+use Rattle.samples.specs.Good.{differs, good, chosen_to}
+use Rattle.bias.specs.Bias.{zero_bias}
+use Rattle.bias.proofs.Zeros.{zero_bias_accepted}
+use Rattle.acceptance.specs.Counts.{Sides, four_counts, within_limits, without_overlap, accepted_sides, no_counts}
+use Rattle.acceptance.specs.Accepted.{accepted_counts, AcceptedSamples, accepted_samples}
 use Rattle.acceptance.specs.Bracketed.{SampleBracketed}
-use Rattle.thermometer.specs.Equations.{measuredRatio, Bracketed}
-use Rattle.acceptance.specs.Kept.{keptScan}
+use Rattle.thermometer.specs.Equations.{measured_ratio, Bracketed}
+use Rattle.acceptance.specs.Kept.{kept_scan}
 use Rattle.acceptance.specs.declared.Scan.{Scan}
 use Rattle.scene.specs.declared.Channel.{Channel}
-use Rattle.window.specs.Ages.{noScan, windowOf, shifted, windowAfter}
-use Rattle.window.specs.Sums.{weightSum, valueSum, thermometerWeights, thermometerSum, meansFrom, meansOf}
+use Rattle.window.specs.Ages.{no_scan, window_of, shifted, window_after}
+use Rattle.window.specs.Sums.{weight_sum, value_sum, thermometer_weights, thermometer_sum, means_from, means_of}
 use Rattle.window.specs.declared.Means.{Means}
-use Rattle.window.specs.Means.{D, flagOf, channelStateOf}
+use Rattle.window.specs.Means.{D, flag_of, channel_state_of}
 use Rattle.scene.specs.Temperature.{temperature, biased}
-use Rattle.scene.specs.Scene.{kelvin, noConstants, bits, scene_of, unbiased}
+use Rattle.scene.specs.Scene.{kelvin, no_constants, bits, scene_of, unbiased}
 use Rattle.scene.specs.declared.Scene.TheVariants.{Kelvin, Flagged, Outside}
-use Rattle.scene.proofs.Delivered.{within-guard}
-use Rattle.product.specs.Scenes.{Deliver, sceneIn}
+use Rattle.scene.proofs.Delivered.{within_guard}
+use Rattle.product.specs.Scenes.{Deliver, scene_in}
 use Rattle.product.proofs.SceneLaws.{InUnitsBy}
 use Rattle.calibrator.specs.declared.Calibrator.{Calibrator}
 use Rattle.calibrator.specs.Refusals.{verdict, Reply, delivered, refused}
-use Rattle.calibrator.specs.Feeding.{Feed, AllOfBytes, fresh_of, keptBy, verdictIn, stepBy, step, calibratorAfter}
-use Rattle.promise.specs.Roll.{Roll, verdictAt, joinedBy}
-use Rattle.promise.specs.Restart.{rolledBy}
-use Rattle.promise.specs.Outcomes.{fedMoment}
-use Rattle.promise.specs.Moments.{meansAt, tnlAt, word_at, unitsAt, isDelivered}
+use Rattle.calibrator.specs.Feeding.{Feed, AllOfBytes, fresh_of, kept_by, verdict_in, step_by, step, calibrator_after}
+use Rattle.promise.specs.Roll.{Roll, verdict_at, joined_by}
+use Rattle.promise.specs.Restart.{rolled_by}
+use Rattle.promise.specs.Outcomes.{fed_moment}
+use Rattle.promise.specs.Moments.{means_at, tnl_at, word_at, units_at, is_delivered}
 use Rattle.promise.specs.Promise.{front, FeedClaim, Alike, Promise}
 use Rattle.scene.specs.BeforeBias.{justT, outsideMark}
 use Rattle.lookup.specs.Lookup.{Found, foundCount}
 use Rattle.promise.specs.CountBehind.{answer_of, AnswerSays}
-use Rattle.promise.proofs.CountLaws.{answers-say, higher-count-higher-t}
-use Rattle.bench.proofs.BenchBytes.{bench-scan-bytes, numbered-bytes, zeros-bytes}
-use Rattle.promise.specs.SameScenes.{FedChannel, settingsOfFed, momentOfFed, fedFlag, fedNumbers, fedScene}
-use Rattle.product.specs.Product.{productSize}
-use Rattle.bench.specs.Bench.{benchTable, instrumentBytes, perChannel, shelfBytes, benchScan, benchCalibrator, benchSettings, benchMoment, benchChannel, benchT, samplesAt}
-use Rattle.bench.specs.Witnesses.{rejectedScan, flaggedScan, numberedScan, zeros, rejectedList, oneOfEach, feedsBefore, replies}
-use Rattle.calibrator.proofs.Plain.{no-feed-of-bytes, feeds-of-bytes}
-use Rattle.calibrator.proofs.Verdicts.{verdict-length-wrong, verdict-field-wrong, verdict-number-not-above, verdict-buffer-short, verdict-passes}
-use Rattle.bench.proofs.BenchScan.{bench-table, bench-row, samplesWith, samples-are, benchSides, bench-samples, bench-kept, benchKept, benchMeans, bench-tnl}
-use Rattle.bench.proofs.FirstFeed.{states-by-kept, Gives, first-verdict, first_word, first-reply}
-use Rattle.bench.proofs.BenchFeed.{channels-of-kept, scene-delivered, bench-gives, bench-passes, bench-reply}
-use Rattle.bench.proofs.BenchRows.{tcOf, riseOf, rise-of-target, rows}
-use Rattle.promise.proofs.Plain.{same-scan-by, alike-accepted-by, alike-refused-by, alike-by, none_alike, same-products-say, each-says, fed-record-says}
-use Rattle.promise.proofs.RollLaws.{scanOfAge}
-use Rattle.promise.proofs.SampleLaws.{means-at-is}
-use Rattle.promise.proofs.SceneClaims.{bits-delivered}
-use Rattle.promise.proofs.Demand.{demand-three}
-use Rattle.promise.proofs.ThermometerLaws.{fed-thermometers-bracketed}
-use Rattle.promise.proofs.WithoutBiasLaws.{by-zero-bias}
-use Rattle.promise.proofs.SameScenesLaws.{byNumbers, scene-by-numbers, same-scenes}
+use Rattle.promise.proofs.CountLaws.{answers_say, higher_count_higher_t}
+use Rattle.bench.proofs.BenchBytes.{bench_scan_bytes, numbered_bytes, zeros_bytes}
+use Rattle.promise.specs.SameScenes.{FedChannel, settings_of_fed, moment_of_fed, fed_flag, fed_numbers, fed_scene}
+use Rattle.product.specs.Product.{product_size}
+use Rattle.bench.specs.Bench.{bench_table, instrument_bytes, per_channel, shelf_bytes, bench_scan, bench_calibrator, bench_settings, bench_moment, bench_channel, bench_t, samples_at}
+use Rattle.bench.specs.Witnesses.{rejected_scan, flagged_scan, numbered_scan, zeros, rejected_list, one_of_each, feeds_before, replies}
+use Rattle.calibrator.proofs.Plain.{no_feed_of_bytes, feeds_of_bytes}
+use Rattle.calibrator.proofs.Verdicts.{verdict_length_wrong, verdict_field_wrong, verdict_number_not_above, verdict_buffer_short, verdict_passes}
+use Rattle.bench.proofs.BenchScan.{bench_table_lem, bench_row, samples_with, samples_are, bench_sides, bench_samples, bench_kept, bench_kept_lem, bench_means_lem, bench_tnl}
+use Rattle.bench.proofs.FirstFeed.{states_by_kept, Gives, first_verdict, first_word, first_reply}
+use Rattle.bench.proofs.BenchFeed.{channels_of_kept, scene_delivered_lem, bench_gives, bench_passes, bench_reply}
+use Rattle.bench.proofs.BenchRows.{tc_of, rise_of, rise_of_target, rows}
+use Rattle.promise.proofs.Plain.{same_scan_by, alike_accepted_by, alike_refused_by, alike_by, none_alike, same_products_say, each_says, fed_record_says}
+use Rattle.promise.proofs.RollLaws.{scan_of_age}
+use Rattle.promise.proofs.SampleLaws.{means_at_is}
+use Rattle.promise.proofs.SceneClaims.{bits_delivered}
+use Rattle.promise.proofs.Demand.{demand_three}
+use Rattle.promise.proofs.ThermometerLaws.{fed_thermometers_bracketed}
+use Rattle.promise.proofs.WithoutBiasLaws.{by_zero_bias}
+use Rattle.promise.proofs.SameScenesLaws.{by_numbers, scene_by_numbers, same_scenes}
 
 -- ---- a buffer with room, as the laws below ask for
 
-pub some-room : productSize ≤ length {A = ℕ} (replicate productSize 0)
-some-room = omega (arith, length-replicate {A = ℕ} productSize 0)
+pub some_room : product_size ≤ length {A = ℕ} (replicate product_size 0)
+some_room = omega (arith, length-replicate {A = ℕ} product_size 0)
 
 -- ---- demand 3, of the bench calibrator
 
-bench-promise : (feeds others : List Feed) → Promise benchCalibrator benchSettings zeroBias feeds others
-bench-promise = demand-three (record { bytes = benchTable }) bench-table (record { bytes = zeroBias }) zero-bias-accepted
+bench_promise : (feeds others : List Feed) → Promise bench_calibrator bench_settings zero_bias feeds others
+bench_promise = demand_three (record { bytes = bench_table }) bench_table_lem (record { bytes = zero_bias }) zero_bias_accepted
 
 -- ---- two lists that are alike and differ in a rejected sample (H10: the fourth is bad)
 
-abbrev rejectedSides : Sides
-rejectedSides = record { warm = samplesAt 3 20000; cold = samplesAt 4 10000 }
+abbrev rejected_sides : Sides
+rejected_sides = record { warm = samples_at 3 20000; cold = samples_at 4 10000 }
 
-first-samples : acceptedSamples benchSettings (rejectedScan 20100) ≡ samplesWith rejectedSides
-unfolding benchTable rejectedScan tabulate acceptedCounts fourCounts withinLimits acceptedSides withoutOverlap good differs count chosenTo
-first-samples = samples-are (rejectedScan 20100) rejectedSides refl refl
+first_samples : accepted_samples bench_settings (rejected_scan 20100) ≡ samples_with rejected_sides
+unfolding bench_table rejected_scan tabulate accepted_counts four_counts within_limits accepted_sides without_overlap good differs count chosen_to
+first_samples = samples_are (rejected_scan 20100) rejected_sides refl refl
 
-second-samples : acceptedSamples benchSettings (rejectedScan 20200) ≡ samplesWith rejectedSides
-unfolding benchTable rejectedScan tabulate acceptedCounts fourCounts withinLimits acceptedSides withoutOverlap good differs count chosenTo
-second-samples = samples-are (rejectedScan 20200) rejectedSides refl refl
+second_samples : accepted_samples bench_settings (rejected_scan 20200) ≡ samples_with rejected_sides
+unfolding bench_table rejected_scan tabulate accepted_counts four_counts within_limits accepted_sides without_overlap good differs count chosen_to
+second_samples = samples_are (rejected_scan 20200) rejected_sides refl refl
 
-rejected-gives : (fourth : ℕ) → acceptedSamples benchSettings (rejectedScan fourth) ≡ samplesWith rejectedSides → Gives (rejectedScan fourth) benchChannel 15000
-unfolding rejectedScan layoutIsRight fieldIsRight keptScan tabulate perChannel shelfBytes
-rejected-gives fourth samples = record {
+rejected_gives : (fourth : ℕ) → accepted_samples bench_settings (rejected_scan fourth) ≡ samples_with rejected_sides → Gives (rejected_scan fourth) bench_channel 15000
+unfolding rejected_scan layout_is_right field_is_right kept_scan tabulate per_channel shelf_bytes
+rejected_gives fourth samples = record {
   long = refl;
   right = refl;
   number = refl;
   shelves = refl;
-  states = channels-of-kept (rejectedScan fourth) refl refl (ap keptScan samples);
+  states = channels_of_kept (rejected_scan fourth) refl refl (ap kept_scan samples);
   earths = refl;
 }
 
-first_gives : Gives (rejectedScan 20100) benchChannel 15000
-first_gives = rejected-gives 20100 first-samples
+first_gives : Gives (rejected_scan 20100) bench_channel 15000
+first_gives = rejected_gives 20100 first_samples
 
-second-gives : Gives (rejectedScan 20200) benchChannel 15000
-second-gives = rejected-gives 20200 second-samples
+second_gives : Gives (rejected_scan 20200) bench_channel 15000
+second_gives = rejected_gives 20200 second_samples
 
-pub records-differ : rejectedScan 20100 ≡ rejectedScan 20200 → ⊥
-unfolding rejectedScan
-records-differ same = let byte : ◌≡◌ {A = ℕ} 132 232 = ap (λ (l : List ℕ). get_or l 54 0) same in omega arith
+pub records_differ : rejected_scan 20100 ≡ rejected_scan 20200 → ⊥
+unfolding rejected_scan
+records_differ same = let byte : ◌≡◌ {A = ℕ} 132 232 = ap (λ (l : List ℕ). get_or l 54 0) same in omega arith
 
 -- a refused feed leaves the calibrator as it was
-replies-refused : (c : Calibrator) (feed : Feed) (more : List Feed) (n : ℕ) (rest : List Reply) → verdictIn c feed ≡ fails n → replies c more ≡ rest
+replies_refused : (c : Calibrator) (feed : Feed) (more : List Feed) (n : ℕ) (rest : List Reply) → verdict_in c feed ≡ fails n → replies c more ≡ rest
     → replies c (feed ∷ more) ≡ refused n ∷ rest
-unfolding replies stepBy
-replies-refused c feed more n rest is follows =
-    ap (λ (v : Verdict). (stepBy v c feed).outcome.reply ∷ replies (stepBy v c feed).calibrator more) is ∙ ap (λ (l : List Reply). refused n ∷ l) follows
+unfolding replies step_by
+replies_refused c feed more n rest is follows =
+    ap (λ (v : Verdict). (step_by v c feed).outcome.reply ∷ replies (step_by v c feed).calibrator more) is ∙ ap (λ (l : List Reply). refused n ∷ l) follows
 
-replies-rejected : (short : List ℕ) (fourth : ℕ) (buffer : List ℕ) → (length short ≡ recordSize → ⊥) → productSize ≤ length buffer → Gives (rejectedScan fourth) benchChannel 15000
-    → replies benchCalibrator (rejectedList short fourth buffer) ≡ refused 4 ∷ delivered 2112 ∷ []
+replies_rejected : (short : List ℕ) (fourth : ℕ) (buffer : List ℕ) → (length short ≡ record_size → ⊥) → product_size ≤ length buffer → Gives (rejected_scan fourth) bench_channel 15000
+    → replies bench_calibrator (rejected_list short fourth buffer) ≡ refused 4 ∷ delivered 2112 ∷ []
 unfolding replies
-replies-rejected short fourth buffer wrong room gives =
-    let feed : Feed = record { scan = rejectedScan fourth; buffer = buffer } in
-    replies-refused benchCalibrator (record { scan = short; buffer = [] }) (feed ∷ []) 4 _ (verdict-length-wrong _ _ short 0 wrong)
-    (ap (λ (reply : Reply). reply ∷ []) (first-reply gives buffer room scene-delivered))
+replies_rejected short fourth buffer wrong room gives =
+    let feed : Feed = record { scan = rejected_scan fourth; buffer = buffer } in
+    replies_refused bench_calibrator (record { scan = short; buffer = [] }) (feed ∷ []) 4 _ (verdict_length_wrong _ _ short 0 wrong)
+    (ap (λ (reply : Reply). reply ∷ []) (first_reply gives buffer room scene_delivered_lem))
 
-module _ (buffer other : List ℕ) (room : productSize ≤ length buffer) (other-room : productSize ≤ length other) where
-  abbrev firstFeed : Feed
-  firstFeed = record { scan = rejectedScan 20100; buffer = buffer }
+module _ (buffer other : List ℕ) (room : product_size ≤ length buffer) (other-room : product_size ≤ length other) where
+  abbrev first_feed : Feed
+  first_feed = record { scan = rejected_scan 20100; buffer = buffer }
 
-  abbrev secondFeed : Feed
-  secondFeed = record { scan = rejectedScan 20200; buffer = other }
+  abbrev second_feed : Feed
+  second_feed = record { scan = rejected_scan 20200; buffer = other }
 
-  abbrev firstList : List Feed
-  firstList = rejectedList [] 20100 buffer
+  abbrev first_list : List Feed
+  first_list = rejected_list [] 20100 buffer
 
-  abbrev secondList : List Feed
-  secondList = rejectedList (0 ∷ []) 20200 other
+  abbrev second_list : List Feed
+  second_list = rejected_list (0 ∷ []) 20200 other
 
-  pub first-replies : replies benchCalibrator firstList ≡ refused 4 ∷ delivered 2112 ∷ []
-  first-replies = replies-rejected [] 20100 buffer (λ long. omega arith) room first_gives
+  pub first_replies : replies bench_calibrator first_list ≡ refused 4 ∷ delivered 2112 ∷ []
+  first_replies = replies_rejected [] 20100 buffer (λ long. omega arith) room first_gives
 
-  pub second-replies : replies benchCalibrator secondList ≡ refused 4 ∷ delivered 2112 ∷ []
-  second-replies = replies-rejected (0 ∷ []) 20200 other (λ long. omega arith) other-room second-gives
+  pub second_replies : replies bench_calibrator second_list ≡ refused 4 ∷ delivered 2112 ∷ []
+  second_replies = replies_rejected (0 ∷ []) 20200 other (λ long. omega arith) other-room second_gives
 
-  pub lists-alike : Alike benchSettings [] [] firstList secondList
+  pub lists_alike : Alike bench_settings [] [] first_list second_list
   unfolding verdict
-  lists-alike =
-      alike-by benchSettings [] [] _ _ (firstFeed ∷ []) (secondFeed ∷ [])
-      (alike-refused-by benchSettings [] [] _ _ 4 refl refl)
-      (alike-by benchSettings [] [] firstFeed secondFeed [] []
-      (alike-accepted-by benchSettings [] [] firstFeed secondFeed (first-verdict first_gives buffer room) (first-verdict second-gives other other-room)
-      (same-scan-by benchSettings (rejectedScan 20100) (rejectedScan 20200)
-      (first_gives.number ∙ sym second-gives.number) (first_gives.earths ∙ sym second-gives.earths) (first_gives.shelves ∙ sym second-gives.shelves) (first-samples ∙ sym second-samples)))
-      (none_alike benchSettings _ _))
+  lists_alike =
+      alike_by bench_settings [] [] _ _ (first_feed ∷ []) (second_feed ∷ [])
+      (alike_refused_by bench_settings [] [] _ _ 4 refl refl)
+      (alike_by bench_settings [] [] first_feed second_feed [] []
+      (alike_accepted_by bench_settings [] [] first_feed second_feed (first_verdict first_gives buffer room) (first_verdict second_gives other other-room)
+      (same_scan_by bench_settings (rejected_scan 20100) (rejected_scan 20200)
+      (first_gives.number ∙ sym second_gives.number) (first_gives.earths ∙ sym second_gives.earths) (first_gives.shelves ∙ sym second_gives.shelves) (first_samples ∙ sym second_samples)))
+      (none_alike bench_settings _ _))
 
   -- so that by demand 3 the accepted feeds leave the same product
-  pub same-products : front (step benchCalibrator firstFeed).outcome.buffer ≡ front (step benchCalibrator secondFeed).outcome.buffer
-  unfolding verdict stepBy
-  same-products =
-      let c = benchCalibrator in
-      let both = (bench-promise firstList secondList).alike lists-alike in
-      (same-products-say c c firstFeed secondFeed [] [] (same-products-say c c _ _ (firstFeed ∷ []) (secondFeed ∷ []) both).1).0.product 2112 (first-reply first_gives buffer room scene-delivered)
+  pub same_products : front (step bench_calibrator first_feed).outcome.buffer ≡ front (step bench_calibrator second_feed).outcome.buffer
+  unfolding verdict step_by
+  same_products =
+      let c = bench_calibrator in
+      let both = (bench_promise first_list second_list).alike lists_alike in
+      (same_products_say c c first_feed second_feed [] [] (same_products_say c c _ _ (first_feed ∷ []) (second_feed ∷ []) both).1).0.product 2112 (first_reply first_gives buffer room scene_delivered_lem)
 
 -- ---- each refusal, and an accepted feed
 
-module _ (buffer : List ℕ) (room : productSize ≤ length buffer) where
-  abbrev noBytes : Feed
-  noBytes = record { scan = []; buffer = buffer }
+module _ (buffer : List ℕ) (room : product_size ≤ length buffer) where
+  abbrev no_bytes_lem : Feed
+  no_bytes_lem = record { scan = []; buffer = buffer }
 
-  abbrev noTag : Feed
-  noTag = record { scan = zeros; buffer = buffer }
+  abbrev no_tag_lem : Feed
+  no_tag_lem = record { scan = zeros; buffer = buffer }
 
-  abbrev noRoom : Feed
-  noRoom = record { scan = benchScan 15000; buffer = [] }
+  abbrev no_room_lem : Feed
+  no_room_lem = record { scan = bench_scan 15000; buffer = [] }
 
   abbrev bench : Feed
-  bench = record { scan = benchScan 15000; buffer = buffer }
+  bench = record { scan = bench_scan 15000; buffer = buffer }
 
   abbrev after : Calibrator
-  after = (stepBy passes benchCalibrator bench).calibrator
+  after = (step_by passes bench_calibrator bench).calibrator
 
-  no_bytes : verdictIn benchCalibrator noBytes ≡ fails 4
-  no_bytes = verdict-length-wrong _ _ [] (length buffer) (λ long. omega arith)
+  no_bytes : verdict_in bench_calibrator no_bytes_lem ≡ fails 4
+  no_bytes = verdict_length_wrong _ _ [] (length buffer) (λ long. omega arith)
 
-  no-tag : verdictIn benchCalibrator noTag ≡ fails 5
-  unfolding zeros layoutIsRight fieldIsRight
-  no-tag = verdict-field-wrong _ _ zeros (length buffer) refl refl
+  no_tag : verdict_in bench_calibrator no_tag_lem ≡ fails 5
+  unfolding zeros layout_is_right field_is_right
+  no_tag = verdict_field_wrong _ _ zeros (length buffer) refl refl
 
-  no_room : verdictIn benchCalibrator noRoom ≡ fails 7
-  unfolding fresh_of windowOf
-  no_room = verdict-buffer-short false 0 (benchScan 15000) 0 (bench-gives 15000).long (bench-gives 15000).right refl (omega arith)
+  no_room : verdict_in bench_calibrator no_room_lem ≡ fails 7
+  unfolding fresh_of window_of
+  no_room = verdict_buffer_short false 0 (bench_scan 15000) 0 (bench_gives 15000).long (bench_gives 15000).right refl (omega arith)
 
-  once_more : verdictIn after bench ≡ fails 6
-  unfolding stepBy windowAfter
+  once_more : verdict_in after bench ≡ fails 6
+  unfolding step_by window_after
   once_more =
-      let number = scanNumber (benchScan 15000) in
-      verdict-number-not-above true number (benchScan 15000) (length buffer) (bench-gives 15000).long (bench-gives 15000).right (le-leb number number (le_refl number))
+      let number = scan_number (bench_scan 15000) in
+      verdict_number_not_above true number (bench_scan 15000) (length buffer) (bench_gives 15000).long (bench_gives 15000).right (le-leb number number (le_refl number))
 
-  bench-twice : replies benchCalibrator (bench ∷ bench ∷ []) ≡ delivered 2112 ∷ refused 6 ∷ []
+  bench_twice : replies bench_calibrator (bench ∷ bench ∷ []) ≡ delivered 2112 ∷ refused 6 ∷ []
   unfolding replies
-  bench-twice =
+  bench_twice =
       ap₂ (λ (reply : Reply) (c : Calibrator). reply ∷ replies c (bench ∷ []))
-      (bench-reply buffer room) (ap (λ (v : Verdict). (stepBy v benchCalibrator bench).calibrator) (bench-passes 15000 buffer room))
-      ∙ ap (λ (l : List Reply). delivered 2112 ∷ l) (replies-refused after bench [] 6 [] once_more refl)
+      (bench_reply buffer room) (ap (λ (v : Verdict). (step_by v bench_calibrator bench).calibrator) (bench_passes 15000 buffer room))
+      ∙ ap (λ (l : List Reply). delivered 2112 ∷ l) (replies_refused after bench [] 6 [] once_more refl)
 
-  pub one-of-each : replies benchCalibrator (oneOfEach buffer) ≡ refused 4 ∷ refused 5 ∷ refused 7 ∷ delivered 2112 ∷ refused 6 ∷ []
-  one-of-each =
-      replies-refused benchCalibrator noBytes (noTag ∷ noRoom ∷ bench ∷ bench ∷ []) 4 _ no_bytes
-      (replies-refused benchCalibrator noTag (noRoom ∷ bench ∷ bench ∷ []) 5 _ no-tag
-      (replies-refused benchCalibrator noRoom (bench ∷ bench ∷ []) 7 _ no_room
-      bench-twice))
+  pub one_of_each_lem : replies bench_calibrator (one_of_each buffer) ≡ refused 4 ∷ refused 5 ∷ refused 7 ∷ delivered 2112 ∷ refused 6 ∷ []
+  one_of_each_lem =
+      replies_refused bench_calibrator no_bytes_lem (no_tag_lem ∷ no_room_lem ∷ bench ∷ bench ∷ []) 4 _ no_bytes
+      (replies_refused bench_calibrator no_tag_lem (no_room_lem ∷ bench ∷ bench ∷ []) 5 _ no_tag
+      (replies_refused bench_calibrator no_room_lem (bench ∷ bench ∷ []) 7 _ no_room
+      bench_twice))
 
 -- ---- scenes
 
 -- what is delivered is T, within the guard
-bench-in-units : InUnitsBy unbiased benchChannel
-bench-in-units = record { within = λ flag count passed. within-guard passed.guard-low passed.guard-high }
+bench_in_units : InUnitsBy unbiased bench_channel
+bench_in_units = record { within = λ flag count passed. within_guard passed.guard-low passed.guard-high }
 
-outside-scene : sceneIn unbiased benchChannel 9999 ≡ Outside
-unfolding sceneIn scene_of r floor
-outside-scene = refl
+outside_scene : scene_in unbiased bench_channel 9999 ≡ Outside
+unfolding scene_in scene_of r floor
+outside_scene = refl
 
 -- with c0 = 1 and e = 0 the count of H4 is delivered one unit higher
-pub one-unit-higher : sceneIn (biased (pos 1) (pos 0)) benchChannel 15000 ≡ Kelvin (kelvin 565395)
-unfolding sceneIn scene_of biased r floor
-one-unit-higher = refl
+pub one_unit_higher : scene_in (biased (pos 1) (pos 0)) bench_channel 15000 ≡ Kelvin (kelvin 565395)
+unfolding scene_in scene_of biased r floor
+one_unit_higher = refl
 
 -- too few warm counts
-abbrev flaggedChannel : Channel
-flaggedChannel = record { flag = 2; constants = noConstants }
+abbrev flagged_channel : Channel
+flagged_channel = record { flag = 2; constants = no_constants }
 
-flagged-samples : acceptedSamples benchSettings flaggedScan ≡ samplesWith noCounts
-unfolding benchTable flaggedScan tabulate acceptedCounts fourCounts withinLimits acceptedSides withoutOverlap good differs count chosenTo
-flagged-samples = samples-are flaggedScan noCounts refl refl
+flagged_samples : accepted_samples bench_settings flagged_scan ≡ samples_with no_counts
+unfolding bench_table flagged_scan tabulate accepted_counts four_counts within_limits accepted_sides without_overlap good differs count chosen_to
+flagged_samples = samples_are flagged_scan no_counts refl refl
 
-flagged-gives : Gives flaggedScan flaggedChannel 15000
-unfolding benchTable flaggedScan shelfBytes layoutIsRight fieldIsRight keptScan tabulate windowOf windowAfter shifted noScan cells channelStateOf flagOf meansFrom weightSum valueSum thermometerWeights thermometerSum sum
-flagged-gives = record {
+flagged_gives : Gives flagged_scan flagged_channel 15000
+unfolding bench_table flagged_scan shelf_bytes layout_is_right field_is_right kept_scan tabulate window_of window_after shifted no_scan cells channel_state_of flag_of means_from weight_sum value_sum thermometer_weights thermometer_sum sum
+flagged_gives = record {
   long = refl;
   right = refl;
   number = refl;
   shelves = refl;
-  states = states-by-kept flaggedScan (keptScan (samplesWith noCounts)) refl refl (ap keptScan flagged-samples);
+  states = states_by_kept flagged_scan (kept_scan (samples_with no_counts)) refl refl (ap kept_scan flagged_samples);
   earths = refl;
 }
 
-flagged-scene : sceneIn unbiased flaggedChannel 15000 ≡ Flagged
-unfolding sceneIn
-flagged-scene = refl
+flagged_scene : scene_in unbiased flagged_channel 15000 ≡ Flagged
+unfolding scene_in
+flagged_scene = refl
 
-module _ (buffer : List ℕ) (room : productSize ≤ length buffer) (c i : ℕ) (below : c < channels) (inside : i < positions) where
+module _ (buffer : List ℕ) (room : product_size ≤ length buffer) (c i : ℕ) (below : c < channels) (inside : i < positions) where
   -- earth counts 9,999 (H6)
-  pub all-outside : word_at (step benchCalibrator (record { scan = benchScan 9999; buffer = buffer })).outcome.buffer c i ≡ bits Outside
-  all-outside = first_word (bench-gives 9999) buffer room c i below inside ∙ ap bits outside-scene
+  pub all_outside : word_at (step bench_calibrator (record { scan = bench_scan 9999; buffer = buffer })).outcome.buffer c i ≡ bits Outside
+  all_outside = first_word (bench_gives 9999) buffer room c i below inside ∙ ap bits outside_scene
 
   -- no count is accepted (H12)
-  pub all-flagged : word_at (step benchCalibrator (record { scan = flaggedScan; buffer = buffer })).outcome.buffer c i ≡ bits Flagged
-  all-flagged = first_word flagged-gives buffer room c i below inside ∙ ap bits flagged-scene
+  pub all_flagged : word_at (step bench_calibrator (record { scan = flagged_scan; buffer = buffer })).outcome.buffer c i ≡ bits Flagged
+  all_flagged = first_word flagged_gives buffer room c i below inside ∙ ap bits flagged_scene
 
   -- earth counts 15,000 (H4)
-  pub all-delivered : isDelivered (word_at (step benchCalibrator (record { scan = benchScan 15000; buffer = buffer })).outcome.buffer c i) ≡ true
-  all-delivered = ap isDelivered (first_word (bench-gives 15000) buffer room c i below inside) ∙ bits-delivered unbiased benchChannel bench-in-units 15000 ∙ scene-delivered
+  pub all_delivered : is_delivered (word_at (step bench_calibrator (record { scan = bench_scan 15000; buffer = buffer })).outcome.buffer c i) ≡ true
+  all_delivered = ap is_delivered (first_word (bench_gives 15000) buffer room c i below inside) ∙ bits_delivered unbiased bench_channel bench_in_units 15000 ∙ scene_delivered_lem
 
   -- so that by demand 3 each is exactly T / 4096
-  pub each-is-exact : Equal (unitsAt (step benchCalibrator (record { scan = benchScan 15000; buffer = buffer })).outcome.buffer c i) (whole (pos 565394))
-  each-is-exact =
-      let feed : Feed = record { scan = benchScan 15000; buffer = buffer } in
-      let after = step benchCalibrator feed in
-      let promise = bench-promise (feed ∷ []) [] in
-      let claim = (each-says (FeedClaim benchSettings zeroBias) [] benchCalibrator feed [] promise.each).0.accepts (first-verdict (bench-gives 15000) buffer room) in
-      let delivered-is = ap (λ (deliver : ℕ → Deliver). deliver c i (benchT 15000 c i)) by-zero-bias ∙ (rows.H4 c i below inside).1 in
-      subst (λ (t : ℤ). Equal (unitsAt after.outcome.buffer c i) (whole t)) delivered-is ((claim.scenes c i below inside).exact all-delivered)
+  pub each_is_exact : Equal (units_at (step bench_calibrator (record { scan = bench_scan 15000; buffer = buffer })).outcome.buffer c i) (whole (pos 565394))
+  each_is_exact =
+      let feed : Feed = record { scan = bench_scan 15000; buffer = buffer } in
+      let after = step bench_calibrator feed in
+      let promise = bench_promise (feed ∷ []) [] in
+      let claim = (each_says (FeedClaim bench_settings zero_bias) [] bench_calibrator feed [] promise.each).0.accepts (first_verdict (bench_gives 15000) buffer room) in
+      let delivered_is = ap (λ (deliver : ℕ → Deliver). deliver c i (bench_t 15000 c i)) by_zero_bias ∙ (rows.H4 c i below inside).1 in
+      subst (λ (t : ℤ). Equal (units_at after.outcome.buffer c i) (whole t)) delivered_is ((claim.scenes c i below inside).exact all_delivered)
 
 -- ---- the bench scan after a refused record and a scan with number 6, whose weights at age 1 are 0
 
 module _ (number earth : ℕ) where
-  numbered-samples : acceptedSamples benchSettings (numberedScan number earth) ≡ samplesWith benchSides
-  unfolding benchTable numberedScan tabulate acceptedCounts fourCounts withinLimits acceptedSides withoutOverlap good differs count chosenTo
-  numbered-samples = samples-are (numberedScan number earth) benchSides refl refl
+  numbered_samples : accepted_samples bench_settings (numbered_scan number earth) ≡ samples_with bench_sides
+  unfolding bench_table numbered_scan tabulate accepted_counts four_counts within_limits accepted_sides without_overlap good differs count chosen_to
+  numbered_samples = samples_are (numbered_scan number earth) bench_sides refl refl
 
-  numbered-kept : keptBy benchSettings (numberedScan number earth) ≡ benchKept
-  unfolding keptScan tabulate
-  numbered-kept = ap keptScan numbered-samples
+  numbered_kept : kept_by bench_settings (numbered_scan number earth) ≡ bench_kept_lem
+  unfolding kept_scan tabulate
+  numbered_kept = ap kept_scan numbered_samples
 
-  numbered-long : length (numberedScan number earth) ≡ recordSize
-  unfolding numberedScan
-  numbered-long = refl
+  numbered_long : length (numbered_scan number earth) ≡ record_size
+  unfolding numbered_scan
+  numbered_long = refl
 
-  numbered-right : layoutIsRight (numberedScan number earth) 0 recordLayout ≡ true
-  unfolding numberedScan layoutIsRight fieldIsRight
-  numbered-right = refl
+  numbered_right : layout_is_right (numbered_scan number earth) 0 record_layout ≡ true
+  unfolding numbered_scan layout_is_right field_is_right
+  numbered_right = refl
 
-means-after-six : (c : ℕ) → c < channels
-    → meansOf benchSettings (λ k. cond (eqb (7 + k) 7) benchKept (cond (eqb (6 + k) 7) benchKept noScan)) c ≡ benchMeans (target_of c)
-unfolding benchTable tabulate meansFrom weightSum valueSum thermometerWeights thermometerSum sum noScan
-means-after-six = each-of-same _ (λ c. benchMeans (target_of c)) channels refl
+means_after_six : (c : ℕ) → c < channels
+    → means_of bench_settings (λ k. cond (eqb (7 + k) 7) bench_kept_lem (cond (eqb (6 + k) 7) bench_kept_lem no_scan)) c ≡ bench_means_lem (target_of c)
+unfolding bench_table tabulate means_from weight_sum value_sum thermometer_weights thermometer_sum sum no_scan
+means_after_six = each_of_same _ (λ c. bench_means_lem (target_of c)) channels refl
 
-target-flag-zero : (target : Target) → flagOf benchSettings target (benchMeans target) ≡ 0
-unfolding benchTable flagOf sum
-target-flag-zero Kav = refl
-target-flag-zero Wg = refl
+target_flag_zero : (target : Target) → flag_of bench_settings target (bench_means_lem target) ≡ 0
+unfolding bench_table flag_of sum
+target_flag_zero Kav = refl
+target_flag_zero Wg = refl
 
 -- ---- request W3: channels 1 and 16 of the bench scan, by eight thermometers and by seven, agree in the six numbers
 
-abbrev benchNumbers : List ℤ
-benchNumbers = pos 11166 ∷ pos 1107656 ∷ pos 400 ∷ pos 120000 ∷ pos 12 ∷ pos 120000 ∷ []
+abbrev bench_numbers : List ℤ
+bench_numbers = pos 11166 ∷ pos 1107656 ∷ pos 400 ∷ pos 120000 ∷ pos 12 ∷ pos 120000 ∷ []
 
-module _ (earth : ℕ) (buffer : List ℕ) (room : productSize ≤ length buffer) where
+module _ (earth : ℕ) (buffer : List ℕ) (room : product_size ≤ length buffer) where
   -- the refused record leaves the roll empty, and the other joins it
-  pub rolled-before : rolledBy [] (feedsBefore earth buffer) ≡ numberedScan 6 earth ∷ []
-  unfolding rolledBy zeros layoutIsRight fieldIsRight
-  rolled-before =
-      let six : Feed = record { scan = numberedScan 6 earth; buffer = buffer } in
-      let refused-first = verdict-field-wrong false 0 zeros (length buffer) refl refl in
-      let accepted-then = verdict-passes false 0 (numberedScan 6 earth) (length buffer) (numbered-long 6 earth) (numbered-right 6 earth) refl room in
-      ap (λ (v : Verdict). rolledBy (joinedBy v [] (record { scan = zeros; buffer = buffer })) (six ∷ [])) refused-first ∙ ap (λ (v : Verdict). joinedBy v [] six) accepted-then
+  pub rolled_before : rolled_by [] (feeds_before earth buffer) ≡ numbered_scan 6 earth ∷ []
+  unfolding rolled_by zeros layout_is_right field_is_right
+  rolled_before =
+      let six : Feed = record { scan = numbered_scan 6 earth; buffer = buffer } in
+      let refused-first = verdict_field_wrong false 0 zeros (length buffer) refl refl in
+      let accepted-then = verdict_passes false 0 (numbered_scan 6 earth) (length buffer) (numbered_long 6 earth) (numbered_right 6 earth) refl room in
+      ap (λ (v : Verdict). rolled_by (joined_by v [] (record { scan = zeros; buffer = buffer })) (six ∷ [])) refused-first ∙ ap (λ (v : Verdict). joined_by v [] six) accepted-then
 
-  pub fed-passes : verdictAt (rolledBy [] (feedsBefore earth buffer)) (record { scan = benchScan earth; buffer = buffer }) ≡ passes
-  unfolding numberedScan benchScan
-  fed-passes =
-      ap (λ (roll : Roll). verdictAt roll (record { scan = benchScan earth; buffer = buffer })) rolled-before
-      ∙ verdict-passes true 6 (benchScan earth) (length buffer) (bench-gives earth).long (bench-gives earth).right refl room
+  pub fed_passes : verdict_at (rolled_by [] (feeds_before earth buffer)) (record { scan = bench_scan earth; buffer = buffer }) ≡ passes
+  unfolding numbered_scan bench_scan
+  fed_passes =
+      ap (λ (roll : Roll). verdict_at roll (record { scan = bench_scan earth; buffer = buffer })) rolled_before
+      ∙ verdict_passes true 6 (bench_scan earth) (length buffer) (bench_gives earth).long (bench_gives earth).right refl room
 
   abbrev pub fed : (c : ℕ) → c < channels → FedChannel
   fed c below = record {
-    table = benchTable;
-    tableAccepted = bench-table;
-    before = feedsBefore earth buffer;
-    feed = record { scan = benchScan earth; buffer = buffer };
-    feedAccepted = fed-passes;
+    table = bench_table;
+    tableAccepted = bench_table_lem;
+    before = feeds_before earth buffer;
+    feed = record { scan = bench_scan earth; buffer = buffer };
+    feedAccepted = fed_passes;
     channel = c;
     isChannel = below;
   }
 
-  fed-means : (c : ℕ) (below : c < channels) → meansAt benchSettings (momentOfFed (fed c below)) c ≡ benchMeans (target_of c)
-  unfolding scanOfAge benchScan numberedScan
-  fed-means c below =
-      ap (λ (roll : Roll). meansAt benchSettings (fedMoment roll (benchScan earth)) c) rolled-before
-      ∙ means-at-is benchSettings (fedMoment (numberedScan 6 earth ∷ []) (benchScan earth)) c below
-      ∙ ap₂ (λ (kept older : Scan). meansOf benchSettings (λ k. cond (eqb (7 + k) 7) kept (cond (eqb (6 + k) 7) older noScan)) c) (bench-kept earth) (numbered-kept 6 earth)
-      ∙ means-after-six c below
+  fed_means : (c : ℕ) (below : c < channels) → means_at bench_settings (moment_of_fed (fed c below)) c ≡ bench_means_lem (target_of c)
+  unfolding scan_of_age bench_scan numbered_scan
+  fed_means c below =
+      ap (λ (roll : Roll). means_at bench_settings (fed_moment roll (bench_scan earth)) c) rolled_before
+      ∙ means_at_is bench_settings (fed_moment (numbered_scan 6 earth ∷ []) (bench_scan earth)) c below
+      ∙ ap₂ (λ (kept older : Scan). means_of bench_settings (λ k. cond (eqb (7 + k) 7) kept (cond (eqb (6 + k) 7) older no_scan)) c) (bench_kept earth) (numbered_kept 6 earth)
+      ∙ means_after_six c below
 
-  fed-flag-zero : (c : ℕ) (below : c < channels) → fedFlag (fed c below) ≡ 0
-  fed-flag-zero c below = ap (flagOf benchSettings (target_of c)) (fed-means c below) ∙ target-flag-zero (target_of c)
+  fed_flag_zero : (c : ℕ) (below : c < channels) → fed_flag (fed c below) ≡ 0
+  fed_flag_zero c below = ap (flag_of bench_settings (target_of c)) (fed_means c below) ∙ target_flag_zero (target_of c)
 
-  fed-numbers-are : (c : ℕ) (below : c < channels) → fedNumbers (fed c below) ≡ benchNumbers
-  fed-numbers-are c below =
-      ap₂ (λ (m : Means) (k : Corrections). tcOf k ∷ riseOf m k ∷ tnlAt benchSettings (benchMoment earth) c ∷ D m ∷ (pos 12 *ℤ pos m.Wc *ℤ pos m.Ww) ∷ (pos m.Ac *ℤ pos m.Ww) ∷ [])
-      (fed-means c below) (bench-row c below)
-      ∙ ap₂ (λ (rise tnl : ℤ). pos 11166 ∷ rise ∷ tnl ∷ pos 120000 ∷ pos 12 ∷ pos 120000 ∷ []) (rise-of-target (target_of c)) (bench-tnl earth c below)
+  fed_numbers_are : (c : ℕ) (below : c < channels) → fed_numbers (fed c below) ≡ bench_numbers
+  fed_numbers_are c below =
+      ap₂ (λ (m : Means) (k : Corrections). tc_of k ∷ rise_of m k ∷ tnl_at bench_settings (bench_moment earth) c ∷ D m ∷ (pos 12 *ℤ pos m.Wc *ℤ pos m.Ww) ∷ (pos m.Ac *ℤ pos m.Ww) ∷ [])
+      (fed_means c below) (bench_row c below)
+      ∙ ap₂ (λ (rise tnl : ℤ). pos 11166 ∷ rise ∷ tnl ∷ pos 120000 ∷ pos 12 ∷ pos 120000 ∷ []) (rise_of_target (target_of c)) (bench_tnl earth c below)
 
   -- though their sums differ
-  pub sums-differ : meansAt (settingsOfFed (fed 0 (lit< tt))) (momentOfFed (fed 0 (lit< tt))) 0 ≡ meansAt (settingsOfFed (fed 15 (lit< tt))) (momentOfFed (fed 15 (lit< tt))) 15 → ⊥
-  sums-differ same =
-      let eight-is-seven : ◌≡◌ {A = ℕ} 8 7 = ap (λ (m : Means). m.sumVP) (sym (fed-means 0 (lit< tt)) ∙ same ∙ fed-means 15 (lit< tt)) in
+  pub sums_differ : means_at (settings_of_fed (fed 0 (lit< tt))) (moment_of_fed (fed 0 (lit< tt))) 0 ≡ means_at (settings_of_fed (fed 15 (lit< tt))) (moment_of_fed (fed 15 (lit< tt))) 15 → ⊥
+  sums_differ same =
+      let eight-is-seven : ◌≡◌ {A = ℕ} 8 7 = ap (λ (m : Means). m.sum_vP) (sym (fed_means 0 (lit< tt)) ∙ same ∙ fed_means 15 (lit< tt)) in
       omega arith
 
   -- so that every count has the same T or the same mark
-  pub both-targets-same : (count : ℕ) → count ≤ 65535 → fedScene (fed 0 (lit< tt)) (pos count) ≡ fedScene (fed 15 (lit< tt)) (pos count)
-  both-targets-same =
-      same-scenes (fed 0 (lit< tt)) (fed 15 (lit< tt)) (fed-flag-zero 0 (lit< tt)) (fed-flag-zero 15 (lit< tt))
-      (fed-numbers-are 0 (lit< tt) ∙ sym (fed-numbers-are 15 (lit< tt)))
+  pub both_targets_same : (count : ℕ) → count ≤ 65535 → fed_scene (fed 0 (lit< tt)) (pos count) ≡ fed_scene (fed 15 (lit< tt)) (pos count)
+  both_targets_same =
+      same_scenes (fed 0 (lit< tt)) (fed 15 (lit< tt)) (fed_flag_zero 0 (lit< tt)) (fed_flag_zero 15 (lit< tt))
+      (fed_numbers_are 0 (lit< tt) ∙ sym (fed_numbers_are 15 (lit< tt)))
 
-  scene-by-bench-numbers : (c : ℕ) (below : c < channels) (count : ℕ) → fedScene (fed c below) (pos count) ≡ byNumbers benchNumbers (pos count)
-  scene-by-bench-numbers c below count =
-      scene-by-numbers (settingsOfFed (fed c below)) (momentOfFed (fed c below)) c (fed-flag-zero c below) (pos count)
-      ∙ ap (λ (numbers : List ℤ). byNumbers numbers (pos count)) (fed-numbers-are c below)
+  scene_by_bench_numbers : (c : ℕ) (below : c < channels) (count : ℕ) → fed_scene (fed c below) (pos count) ≡ by_numbers bench_numbers (pos count)
+  scene_by_bench_numbers c below count =
+      scene_by_numbers (settings_of_fed (fed c below)) (moment_of_fed (fed c below)) c (fed_flag_zero c below) (pos count)
+      ∙ ap (λ (numbers : List ℤ). by_numbers numbers (pos count)) (fed_numbers_are c below)
 
   -- 15,000 has the T of H4, and 9,999 is outside (H6)
-  pub scene-of-h4 : (c : ℕ) (below : c < channels) → fedScene (fed c below) (pos 15000) ≡ justT (pos 565394)
+  pub scene_of_h4 : (c : ℕ) (below : c < channels) → fed_scene (fed c below) (pos 15000) ≡ justT (pos 565394)
   unfolding temperature r floor
-  scene-of-h4 c below = scene-by-bench-numbers c below 15000
+  scene_of_h4 c below = scene_by_bench_numbers c below 15000
 
-  pub scene-of-h6 : (c : ℕ) (below : c < channels) → fedScene (fed c below) (pos 9999) ≡ outsideMark
+  pub scene_of_h6 : (c : ℕ) (below : c < channels) → fed_scene (fed c below) (pos 9999) ≡ outsideMark
   unfolding temperature r floor
-  scene-of-h6 c below = scene-by-bench-numbers c below 9999
+  scene_of_h6 c below = scene_by_bench_numbers c below 9999
 
   -- request W5: after these feeds, all of bytes, 15,000 is the count behind the T of H4
   module _ (small : earth ≤ 65535) (c : ℕ) (below : c < channels) where
-    before-of-bytes : AllOfBytes (feedsBefore earth buffer)
+    before-of-bytes : AllOfBytes (feeds_before earth buffer)
     before-of-bytes =
-        let six : Feed = record { scan = numberedScan 6 earth; buffer = buffer } in
-        feeds-of-bytes (record { scan = zeros; buffer = buffer }) (six ∷ []) zeros-bytes
-        (feeds-of-bytes six [] (numbered-bytes 6 earth (lit< tt) small) no-feed-of-bytes)
+        let six : Feed = record { scan = numbered_scan 6 earth; buffer = buffer } in
+        feeds_of_bytes (record { scan = zeros; buffer = buffer }) (six ∷ []) zeros_bytes
+        (feeds_of_bytes six [] (numbered_bytes 6 earth (lit< tt) small) no_feed_of_bytes)
 
-    abbrev benchAnswer : ℕ → Found
-    benchAnswer wanted = answer_of (step (calibratorAfter benchCalibrator (feedsBefore earth buffer)) (record { scan = benchScan earth; buffer = buffer })).calibrator (c + 1) wanted
+    abbrev bench_answer : ℕ → Found
+    bench_answer wanted = answer_of (step (calibrator_after bench_calibrator (feeds_before earth buffer)) (record { scan = bench_scan earth; buffer = buffer })).calibrator (c + 1) wanted
 
-    bench-says : (wanted : ℕ) → AnswerSays (fed c below) (benchAnswer wanted) wanted
-    bench-says wanted = answers-say (fed c below) (before-of-bytes, bench-scan-bytes earth small) (fed-flag-zero c below) (record { bytes = zeroBias }) wanted
+    bench_says : (wanted : ℕ) → AnswerSays (fed c below) (bench_answer wanted) wanted
+    bench_says wanted = answers_say (fed c below) (before-of-bytes, bench_scan_bytes earth small) (fed_flag_zero c below) (record { bytes = zero_bias }) wanted
 
-    pub count-behind-h4 : benchAnswer 565394 ≡ foundCount 15000
-    count-behind-h4 = (bench-says 565394).only 15000 (lit≤ tt) (scene-of-h4 c below)
+    pub count_behind_h4 : bench_answer 565394 ≡ foundCount 15000
+    count_behind_h4 = (bench_says 565394).only 15000 (lit≤ tt) (scene_of_h4 c below)
 
     -- and H5, the cold mean itself, has the lower T of the two
-    pub scene-of-h5 : fedScene (fed c below) (pos 10000) ≡ justT (pos 11166)
+    pub scene_of_h5 : fed_scene (fed c below) (pos 10000) ≡ justT (pos 11166)
     unfolding temperature r floor
-    scene-of-h5 = scene-by-bench-numbers c below 10000
+    scene_of_h5 = scene_by_bench_numbers c below 10000
 
-    pub h5-below-h4 : pos 11166 <ℤ pos 565394
-    h5-below-h4 =
-        higher-count-higher-t (fed c below) (before-of-bytes, bench-scan-bytes earth small) 10000 15000 (pos 11166) (pos 565394) (lit< tt) scene-of-h5 (scene-of-h4 c below)
+    pub h5_below_h4 : pos 11166 <ℤ pos 565394
+    h5_below_h4 =
+        higher_count_higher_t (fed c below) (before-of-bytes, bench_scan_bytes earth small) 10000 15000 (pos 11166) (pos 565394) (lit< tt) scene_of_h5 (scene_of_h4 c below)
 
   -- request W7: every thermometer of the bench scan has T 1,118,822, and t = 0 of the first is bracketed by its counts
-  pub first-thermometer-bracketed : Bracketed 3850000 1500000 0 (measuredRatio 2000000 2000000 20000 0 20000) (pos 0)
-  unfolding All tabulate cells benchTable benchScan instrumentBytes
+  pub first-thermometer-bracketed : Bracketed 3850000 1500000 0 (measured_ratio 2000000 2000000 20000 0 20000) (pos 0)
+  unfolding All tabulate cells bench_table bench_scan instrument_bytes
   first-thermometer-bracketed =
-      let scan = benchScan earth in
-      let claim = fed-record-says fed-thermometers-bracketed (record { bytes = benchTable }) (feedsBefore earth buffer) (record { scan = scan; buffer = buffer }) fed-passes in
-      (subst (λ (samples : AcceptedSamples). All (SampleBracketed benchSettings scan Kav) samples.kav) (bench-samples earth) (claim Kav)).0
+      let scan = bench_scan earth in
+      let claim = fed_record_says fed_thermometers_bracketed (record { bytes = bench_table }) (feeds_before earth buffer) (record { scan = scan; buffer = buffer }) fed_passes in
+      (subst (λ (samples : AcceptedSamples). All (SampleBracketed bench_settings scan Kav) samples.kav) (bench_samples earth) (claim Kav)).0

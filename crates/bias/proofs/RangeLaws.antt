@@ -2,28 +2,28 @@
 use Prim.Native.Nat.{ℕ, ◌+◌, ◌*◌, ◌<◌}
 use mathlib.Core.List.{List}
 use mathlib.Core.Bool.{Bool}
-use Rattle.lists.proofs.Every.{each-of-every}
-use Rattle.fields.specs.Numbers.{u16At}
-use Rattle.fields.proofs.NumberLaws.{u16-below, signed_range}
+use Rattle.lists.proofs.Every.{each_of_every}
+use Rattle.fields.specs.Numbers.{u16_at}
+use Rattle.fields.proofs.NumberLaws.{u16_below, signed_range}
 use Rattle.instrument.specs.Instrument.{channels, positions}
-use Rattle.table.specs.Ranges.{sizeTo}
+use Rattle.table.specs.Ranges.{size_to}
 use Rattle.table.proofs.Ranges.{bounded}
-use Rattle.bias.specs.Bias.{pairSize, biasPart, c0In}
-use Rattle.bias.specs.Opening.{partInside, biasInside, AcceptedBias}
+use Rattle.bias.specs.Bias.{pair_size, bias_part, c0_in}
+use Rattle.bias.specs.Opening.{part_inside, bias_inside, AcceptedBias}
 use Rattle.bias.specs.Ranges.{PartRange}
 use Rattle.bias.proofs.Parts.{part_bytes}
-use Rattle.bias.proofs.OpeningLaws.{accepted-bias-tests}
+use Rattle.bias.proofs.OpeningLaws.{accepted_bias_tests}
 
-pub accepted-bias-ranges : {bias : List ℕ} → AcceptedBias bias → (c : ℕ) → c < channels → PartRange (biasPart bias c)
-unfolding biasInside partInside
-accepted-bias-ranges {bias} file c below i inside =
-    let part = biasPart bias c in
-    let partTest : ℕ → Bool = λ k. partInside (biasPart bias k) in
-    let pairTest : ℕ → Bool = λ k. sizeTo 4096 (c0In part k) in
-    let at = pairSize * i + 2 in
-    let e = signed_range 0x8000 (u16At part at) (u16-below part (part_bytes bias file.bytes c) at) in
+pub accepted_bias_ranges : {bias : List ℕ} → AcceptedBias bias → (c : ℕ) → c < channels → PartRange (bias_part bias c)
+unfolding bias_inside part_inside
+accepted_bias_ranges {bias} file c below i inside =
+    let part = bias_part bias c in
+    let partTest : ℕ → Bool = λ k. part_inside (bias_part bias k) in
+    let pairTest : ℕ → Bool = λ k. size_to 4096 (c0_in part k) in
+    let at = pair_size * i + 2 in
+    let e = signed_range 0x8000 (u16_at part at) (u16_below part (part_bytes bias file.bytes c) at) in
     record {
-      c0 = bounded (each-of-every pairTest positions i (each-of-every partTest channels c (accepted-bias-tests file).holds below) inside);
+      c0 = bounded (each_of_every pairTest positions i (each_of_every partTest channels c (accepted_bias_tests file).holds below) inside);
       e-low = e.0;
       e-high = e.1;
     }

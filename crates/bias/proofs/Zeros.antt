@@ -7,77 +7,77 @@ use mathlib.Core.Bool.{true}
 use lib.IntN.{pos}
 use lib.ListN.{length, get_or, drop, replicate, length-replicate}
 use lib.Seq.{drop-drop}
-use Rattle.lists.proofs.Every.{every-when-each}
-use Rattle.lists.proofs.Elements.{zero-of-zeros, each-appended, each-of-take, each-of-drop}
-use Rattle.fields.specs.Numbers.{i16At, signed}
-use Rattle.fields.specs.Fields.{Field, headSize, field_at, fieldIsRight, layoutIsRight}
-use Rattle.fields.proofs.FieldBytes.{headBytes, length-field}
+use Rattle.lists.proofs.Every.{every_when_each}
+use Rattle.lists.proofs.Elements.{zero_of_zeros, each_appended, each_of_take, each_of_drop}
+use Rattle.fields.specs.Numbers.{i16_at, signed}
+use Rattle.fields.specs.Fields.{Field, head_size, field_at, field_is_right, layout_is_right}
+use Rattle.fields.proofs.FieldBytes.{head_bytes_lem, length_field}
 use Rattle.instrument.specs.Instrument.{channels, positions}
-use Rattle.table.specs.Ranges.{sizeTo}
-use Rattle.table.proofs.OpeningLaws.{opening-passes}
-use Rattle.bias.specs.Bias.{biasLayout, biasSize, pairSize, partSize, biasPart, c0In, eIn, zeroBias}
-use Rattle.bias.specs.Opening.{partInside, biasInside, biasOpening, AcceptedBias}
+use Rattle.table.specs.Ranges.{size_to}
+use Rattle.table.proofs.OpeningLaws.{opening_passes}
+use Rattle.bias.specs.Bias.{bias_layout, bias_size, pair_size, part_size, bias_part, c0_in, e_in, zero_bias}
+use Rattle.bias.specs.Opening.{part_inside, bias_inside, bias_opening, AcceptedBias}
 
 -- its field, and the value
-abbrev biasField : Field
-biasField = field_at biasLayout 0
+abbrev bias_field : Field
+bias_field = field_at bias_layout 0
 
 abbrev zeros : List ℕ
-zeros = replicate biasField.size 0
+zeros = replicate bias_field.size 0
 
-zero-value : (k : ℕ) → get_or zeros k 0 ≡ 0
-zero-value = zero-of-zeros biasField.size
+zero_value : (k : ℕ) → get_or zeros k 0 ≡ 0
+zero_value = zero_of_zeros bias_field.size
 
 -- ---- a part
 
 abbrev IsZero : ℕ → Type 0
 IsZero byte = byte ≡ 0
 
-value-behind-head : (n : ℕ) → drop (headSize + n) zeroBias ≡ drop n zeros
-unfolding zeroBias
-value-behind-head n = sym (drop-drop n headSize zeroBias)
+value_behind_head : (n : ℕ) → drop (head_size + n) zero_bias ≡ drop n zeros
+unfolding zero_bias
+value_behind_head n = sym (drop-drop n head_size zero_bias)
 
-zero-byte : (c k : ℕ) → get_or (biasPart zeroBias c) k 0 ≡ 0
-zero-byte c =
-    let n = partSize * c in
-    rw (value-behind-head n) (each-of-take 0 IsZero refl partSize (drop n zeros) (each-of-drop 0 IsZero refl n zeros zero-value))
+zero_byte : (c k : ℕ) → get_or (bias_part zero_bias c) k 0 ≡ 0
+zero_byte c =
+    let n = part_size * c in
+    rw (value_behind_head n) (each_of_take 0 IsZero refl part_size (drop n zeros) (each_of_drop 0 IsZero refl n zeros zero_value))
 
-zero_number : (c at : ℕ) → i16At (biasPart zeroBias c) at ≡ pos 0
-zero_number c at = ap (signed 0x8000) (ap₂ (λ (high low : ℕ). 256 * high + low) (zero-byte c at) (zero-byte c (at + 1)))
+zero_number : (c at : ℕ) → i16_at (bias_part zero_bias c) at ≡ pos 0
+zero_number c at = ap (signed 0x8000) (ap₂ (λ (high low : ℕ). 256 * high + low) (zero_byte c at) (zero_byte c (at + 1)))
 
-pub zero-c0 : (c i : ℕ) → c0In (biasPart zeroBias c) i ≡ pos 0
-zero-c0 c i = zero_number c (pairSize * i)
+pub zero_c0 : (c i : ℕ) → c0_in (bias_part zero_bias c) i ≡ pos 0
+zero_c0 c i = zero_number c (pair_size * i)
 
-pub zero-e : (c i : ℕ) → eIn (biasPart zeroBias c) i ≡ pos 0
-zero-e c i = zero_number c (pairSize * i + 2)
+pub zero_e : (c i : ℕ) → e_in (bias_part zero_bias c) i ≡ pos 0
+zero_e c i = zero_number c (pair_size * i + 2)
 
 -- ---- the file
 
-zero-bias-length : length zeroBias ≡ biasSize
-unfolding zeroBias
-zero-bias-length = length-field biasField zeros (length-replicate {A = ℕ} biasField.size 0)
+zero_bias_length : length zero_bias ≡ bias_size
+unfolding zero_bias
+zero_bias_length = length_field bias_field zeros (length-replicate {A = ℕ} bias_field.size 0)
 
-zero-bias-layout : layoutIsRight zeroBias 0 biasLayout ≡ true
-unfolding zeroBias layoutIsRight fieldIsRight
-zero-bias-layout = refl
+zero_bias_layout : layout_is_right zero_bias 0 bias_layout ≡ true
+unfolding zero_bias layout_is_right field_is_right
+zero_bias_layout = refl
 
-zero-bias-inside : biasInside zeroBias ≡ true
-unfolding biasInside partInside
-zero-bias-inside = every-when-each _ channels (λ c below. every-when-each _ positions (λ i inside. ap (sizeTo 4096) (zero-c0 c i)))
+zero_bias_inside : bias_inside zero_bias ≡ true
+unfolding bias_inside part_inside
+zero_bias_inside = every_when_each _ channels (λ c below. every_when_each _ positions (λ i inside. ap (size_to 4096) (zero_c0 c i)))
 
-head_bytes : (k : ℕ) → get_or (headBytes biasField) k 0 < 256
+head_bytes : (k : ℕ) → get_or (head_bytes_lem bias_field) k 0 < 256
 head_bytes zero = omega arith
 head_bytes (suc zero) = omega arith
 head_bytes (suc (suc zero)) = omega arith
 head_bytes (suc (suc (suc k))) = omega arith
 
-zero-bias-bytes : (k : ℕ) → get_or zeroBias k 0 < 256
-unfolding zeroBias
-zero-bias-bytes = each-appended 0 (λ byte. byte < 256) (omega arith) (headBytes biasField) zeros head_bytes (λ k. omega (arith, zero-value k))
+zero_bias_bytes : (k : ℕ) → get_or zero_bias k 0 < 256
+unfolding zero_bias
+zero_bias_bytes = each_appended 0 (λ byte. byte < 256) (omega arith) (head_bytes_lem bias_field) zeros head_bytes (λ k. omega (arith, zero_value k))
 
-pub zero-bias-accepted : AcceptedBias zeroBias
-unfolding biasOpening
-zero-bias-accepted = record {
-  accepted = opening-passes biasLayout (biasInside zeroBias) zeroBias zero-bias-length zero-bias-layout zero-bias-inside;
-  bytes = zero-bias-bytes;
+pub zero_bias_accepted : AcceptedBias zero_bias
+unfolding bias_opening
+zero_bias_accepted = record {
+  accepted = opening_passes bias_layout (bias_inside zero_bias) zero_bias zero_bias_length zero_bias_layout zero_bias_inside;
+  bytes = zero_bias_bytes;
 }

@@ -2,10 +2,10 @@
 ghost use Rattle.std.specs.Prelude.{◌≡◌, ℕ, ◌+◌, ◌<◌, ◌≤◌, [], ◌∷◌, length, get_or, replicate};
 ghost use Rattle.lists.specs.Build.{put};
 ghost use Rattle.instrument.specs.Instrument.{positions};
-ghost use Rattle.table.specs.Opening.{verdictOf, openedBy};
-ghost use Rattle.bias.specs.Bias.{biasSize, partSize, c0In};
-ghost use Rattle.bias.specs.Opening.{partInside, biasInside, biasOpening};
-ghost use Rattle.bias.specs.Pairs.{raised, pair_at, pairsOf};
+ghost use Rattle.table.specs.Opening.{verdict_of, opened_by};
+ghost use Rattle.bias.specs.Bias.{bias_size, part_size, c0_in};
+ghost use Rattle.bias.specs.Opening.{part_inside, bias_inside, bias_opening};
+ghost use Rattle.bias.specs.Pairs.{raised, pair_at, pairs_of};
 
 use fields::HEAD;
 use instrument::{CHANNELS, POSITIONS};
@@ -45,15 +45,15 @@ pub struct Opened {
 
 // c0 of position i in a channel's part.
 fn c0_in(part: &[u8], i: usize) -> i64
-    requires { (length part.now ≡ partSize) × (i < positions) }
-    ensures { result ≡ c0In part.now i }
+    requires { (length part.now ≡ part_size) × (i < positions) }
+    ensures { result ≡ c0_in part.now i }
 {
     fields::i16_at(part, PAIR_SIZE * i)
 }
 
 fn part_inside(part: &[u8]) -> bool
-    requires { length part.now ≡ partSize }
-    ensures { result ≡ partInside part.now }
+    requires { length part.now ≡ part_size }
+    ensures { result ≡ part_inside part.now }
 {
     for i in 0..POSITIONS {
         if !table::size_to(4_096, c0_in(part, i)) {
@@ -64,8 +64,8 @@ fn part_inside(part: &[u8]) -> bool
 }
 
 fn values_inside(bytes: &[u8]) -> bool
-    requires { length bytes.now ≡ biasSize }
-    ensures { result ≡ biasInside bytes.now }
+    requires { length bytes.now ≡ bias_size }
+    ensures { result ≡ bias_inside bytes.now }
 {
     for c in 0..CHANNELS {
         let start = VALUE_AT + PART_SIZE * c;
@@ -78,7 +78,7 @@ fn values_inside(bytes: &[u8]) -> bool
 
 // A refusal gives no bias file: its bytes are all 0.
 fn refused(answer: Opening) -> Opened
-    ensures { (result.answer ≡ answer) × (result.bias.bytes ≡ replicate biasSize 0) }
+    ensures { (result.answer ≡ answer) × (result.bias.bytes ≡ replicate bias_size 0) }
 {
     Opened {
         answer,
@@ -90,7 +90,7 @@ fn refused(answer: Opening) -> Opened
 
 // Opening a bias file: any bytes.
 pub fn open(bytes: &[u8]) -> Opened
-    ensures { (verdictOf result.answer ≡ biasOpening bytes.now) × (result.bias.bytes ≡ openedBy biasSize (biasOpening bytes.now) bytes.now) × ((k : ℕ) → get_or result.bias.bytes k 0 < 256) }
+    ensures { (verdict_of result.answer ≡ bias_opening bytes.now) × (result.bias.bytes ≡ opened_by bias_size (bias_opening bytes.now) bytes.now) × ((k : ℕ) → get_or result.bias.bytes k 0 < 256) }
 {
     if bytes.len() != BIAS_SIZE {
         return refused(Opening::LengthWrong);
@@ -138,8 +138,8 @@ fn put_pair(out: &mut [u32], at: usize, bytes: &[u8], from: usize)
 
 // All pairs, each read once.
 pub fn pairs_of(bytes: &[u8]) -> [u32; PAIR_NUMBERS]
-    requires { length bytes.now ≡ biasSize }
-    ensures { result ≡ pairsOf bytes.now }
+    requires { length bytes.now ≡ bias_size }
+    ensures { result ≡ pairs_of bytes.now }
 {
     let mut pairs = [0u32; PAIR_NUMBERS];
     for k in 0..PAIRS {

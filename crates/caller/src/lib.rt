@@ -5,9 +5,9 @@ ghost use Rattle.std.specs.Prelude.{◌≡◌, length};
 ghost use Rattle.lists.specs.Tests.{number_of};
 ghost use Rattle.thermometer.specs.Reading.{number, reading};
 ghost use Rattle.table.specs.Opening.{opening};
-ghost use Rattle.bias.specs.Opening.{biasOpening, bothOpening};
-ghost use Rattle.live.specs.Calls.{freshVerdict, freshBy, fedState, foundIn, foundNumber, countOr};
-ghost use Rattle.station.specs.Calls.{unitsOr, answersBy, buffersBy};
+ghost use Rattle.bias.specs.Opening.{bias_opening, both_opening};
+ghost use Rattle.live.specs.Calls.{fresh_verdict, fresh_by, fed_state, found_in, found_number, count_or};
+ghost use Rattle.station.specs.Calls.{units_or, answers_by, buffers_by};
 
 pub fn opening_of_a_table(table: &[u8]) -> u8
     ensures { result ≡ number_of (opening table.now) }
@@ -16,7 +16,7 @@ pub fn opening_of_a_table(table: &[u8]) -> u8
 }
 
 pub fn opening_of_a_bias_file(bias: &[u8]) -> u8
-    ensures { result ≡ number_of (biasOpening bias.now) }
+    ensures { result ≡ number_of (bias_opening bias.now) }
 {
     station::sounder_open_bias(bias)
 }
@@ -32,7 +32,7 @@ pub fn temperature_of_one_thermometer(
     count: u16,
     t: &mut i32,
 ) -> u8
-    ensures { (result ≡ number (reading r_pam r0 alpha delta beta pam offset count)) × (t.new ≡ unitsOr (reading r_pam r0 alpha delta beta pam offset count) t.old) }
+    ensures { (result ≡ number (reading r_pam r0 alpha delta beta pam offset count)) × (t.new ≡ units_or (reading r_pam r0 alpha delta beta pam offset count) t.old) }
 {
     station::sounder_thermometer(r_pam, r0, alpha, delta, beta, pam, offset, count, t)
 }
@@ -46,7 +46,7 @@ pub fn products_of_a_list(
     buffer_lengths: &[u32],
     answers: &mut [u8],
 ) -> u8
-    ensures { (result ≡ number_of (bothOpening table.now bias.now)) × (answers.new ≡ answersBy (bothOpening table.now bias.now) table.now bias.now (record { scans = records.now; sizes = record_lengths.now; buffers = buffers.old; rooms = buffer_lengths.now }) answers.old) × (buffers.new ≡ buffersBy (bothOpening table.now bias.now) table.now bias.now (record { scans = records.now; sizes = record_lengths.now; buffers = buffers.old; rooms = buffer_lengths.now }) (length answers.old)) }
+    ensures { (result ≡ number_of (both_opening table.now bias.now)) × (answers.new ≡ answers_by (both_opening table.now bias.now) table.now bias.now (record { scans = records.now; sizes = record_lengths.now; buffers = buffers.old; rooms = buffer_lengths.now }) answers.old) × (buffers.new ≡ buffers_by (both_opening table.now bias.now) table.now bias.now (record { scans = records.now; sizes = record_lengths.now; buffers = buffers.old; rooms = buffer_lengths.now }) (length answers.old)) }
 {
     station::sounder_feed_all(
         table,
@@ -66,19 +66,19 @@ pub fn bytes_of_a_state() -> usize
 }
 
 pub fn fresh_state(table: &[u8], bias: &[u8], state: &mut [u8]) -> u8
-    ensures { (result ≡ number_of (freshVerdict table.now bias.now state.old)) × (state.new ≡ freshBy (freshVerdict table.now bias.now state.old) table.now bias.now state.old) }
+    ensures { (result ≡ number_of (fresh_verdict table.now bias.now state.old)) × (state.new ≡ fresh_by (fresh_verdict table.now bias.now state.old) table.now bias.now state.old) }
 {
     station::sounder_fresh(table, bias, state)
 }
 
 pub fn product_of_one_scan(state: &mut [u8], scan: &[u8], buffer: &mut [u8]) -> u8
-    ensures { (result ≡ (fedState state.old (record { scan = scan.entry.now; buffer = buffer.old })).answer) × (state.new ≡ (fedState state.old (record { scan = scan.entry.now; buffer = buffer.old })).state) × (buffer.new ≡ (fedState state.old (record { scan = scan.entry.now; buffer = buffer.old })).buffer) }
+    ensures { (result ≡ (fed_state state.old (record { scan = scan.entry.now; buffer = buffer.old })).answer) × (state.new ≡ (fed_state state.old (record { scan = scan.entry.now; buffer = buffer.old })).state) × (buffer.new ≡ (fed_state state.old (record { scan = scan.entry.now; buffer = buffer.old })).buffer) }
 {
     station::sounder_feed(state, scan, buffer)
 }
 
 pub fn count_behind_a_temperature(state: &[u8], channel: u32, wanted: u32, count: &mut u16) -> u8
-    ensures { (result ≡ foundNumber (foundIn state.now channel wanted)) × (count.new ≡ countOr (foundIn state.now channel wanted) count.old) }
+    ensures { (result ≡ found_number (found_in state.now channel wanted)) × (count.new ≡ count_or (found_in state.now channel wanted) count.old) }
 {
     station::sounder_count_behind(state, channel, wanted, count)
 }

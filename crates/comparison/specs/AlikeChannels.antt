@@ -5,5 +5,5 @@ use Rattle.scene.specs.declared.Constants.{Constants}
 use Rattle.scene.specs.declared.Channel.{Channel}
 
 -- channels with flag 0 and these constants
-unfoldable pub alikeChannels : Constants → List Channel
-alikeChannels constants = replicate channels (record { flag = 0; constants = constants })
+unfoldable pub alike_channels : Constants → List Channel
+alike_channels constants = replicate channels (record { flag = 0; constants = constants })

@@ -1,19 +1,19 @@
 // The proved functions as C functions, for compare/ to call.
 ghost use Rattle.std.specs.Prelude.{◌≡◌, ◌++◌, ℕ, ◌+◌, ◌*◌, ◌<◌, ◌≤◌, pos, length, drop, ◌<ℤ◌};
 ghost use Rattle.integers.specs.Rounding.{floor, r};
-ghost use Rattle.fields.specs.Numbers.{u16At, u32_at, i16At, i32At};
-ghost use Rattle.fields.specs.Fields.{headSize, fieldValue, layout_of, layoutSize, layoutIsRight};
+ghost use Rattle.fields.specs.Numbers.{u16_at, u32_at, i16_at, i32_at};
+ghost use Rattle.fields.specs.Fields.{head_size, field_value, layout_of, layout_size, layout_is_right};
 ghost use Rattle.instrument.specs.Instrument.{channels, thermometers};
-ghost use Rattle.table.specs.Settings.{settingsOf};
-ghost use Rattle.table.specs.Opening.{ages, tableSize};
-ghost use Rattle.record.specs.Record.{RightRecord, earthSize};
-ghost use Rattle.acceptance.specs.Accepted.{acceptedSamples};
-ghost use Rattle.acceptance.specs.Kept.{keptScan};
+ghost use Rattle.table.specs.Settings.{settings_of};
+ghost use Rattle.table.specs.Opening.{ages, table_size};
+ghost use Rattle.record.specs.Record.{RightRecord, earth_size};
+ghost use Rattle.acceptance.specs.Accepted.{accepted_samples};
+ghost use Rattle.acceptance.specs.Kept.{kept_scan};
 ghost use Rattle.scene.specs.Ranges.{ConstantsRange};
-ghost use Rattle.product.specs.Steps.{byPairs, pairsSize, pairsPart, PairsRange};
-ghost use Rattle.product.specs.Product.{productSize, productOf, deliveredCount};
+ghost use Rattle.product.specs.Steps.{by_pairs, pairs_size, pairs_part, PairsRange};
+ghost use Rattle.product.specs.Product.{product_size, product_of, delivered_count};
 ghost use Rattle.comparison.specs.KeptValues.{kept_at};
-ghost use Rattle.comparison.specs.AlikeChannels.{alikeChannels};
+ghost use Rattle.comparison.specs.AlikeChannels.{alike_channels};
 
 use instrument::CHANNELS;
 use scene::{Channel, Constants};
@@ -40,7 +40,7 @@ pub extern "C" fn compared_round(a: i64, b: i64) -> i64
 #[unsafe(no_mangle)]
 pub extern "C" fn compared_u16(bytes: &[u8], at: usize) -> u16
     requires { at + 1 < length bytes.now }
-    ensures { result ≡ u16At bytes.now at }
+    ensures { result ≡ u16_at bytes.now at }
 {
     fields::u16_at(bytes, at)
 }
@@ -56,7 +56,7 @@ pub extern "C" fn compared_u32(bytes: &[u8], at: usize) -> u32
 #[unsafe(no_mangle)]
 pub extern "C" fn compared_i16(bytes: &[u8], at: usize) -> i64
     requires { at + 1 < length bytes.now }
-    ensures { result ≡ i16At bytes.now at }
+    ensures { result ≡ i16_at bytes.now at }
 {
     fields::i16_at(bytes, at)
 }
@@ -64,7 +64,7 @@ pub extern "C" fn compared_i16(bytes: &[u8], at: usize) -> i64
 #[unsafe(no_mangle)]
 pub extern "C" fn compared_i32(bytes: &[u8], at: usize) -> i64
     requires { at + 3 < length bytes.now }
-    ensures { result ≡ i32At bytes.now at }
+    ensures { result ≡ i32_at bytes.now at }
 {
     fields::i32_at(bytes, at)
 }
@@ -72,16 +72,16 @@ pub extern "C" fn compared_i32(bytes: &[u8], at: usize) -> i64
 // How long the part is that the field reader hands back.
 #[unsafe(no_mangle)]
 pub extern "C" fn compared_field(bytes: &[u8], at: usize, tag: u8, size: u16) -> usize
-    requires { at + headSize + size ≤ length bytes.now }
-    ensures { result ≡ length (fieldValue bytes.now at (record { tag = tag; size = size })) }
+    requires { at + head_size + size ≤ length bytes.now }
+    ensures { result ≡ length (field_value bytes.now at (record { tag = tag; size = size })) }
 {
     fields::field(bytes, at, tag, size).len()
 }
 
 #[unsafe(no_mangle)]
 pub extern "C" fn compared_layout(bytes: &[u8], tags: &[u8], sizes: &[u16]) -> bool
-    requires { (length tags.now ≡ length sizes.now) × (layoutSize (layout_of tags.now sizes.now) ≤ length bytes.now) }
-    ensures { result ≡ layoutIsRight bytes.now 0 (layout_of tags.now sizes.now) }
+    requires { (length tags.now ≡ length sizes.now) × (layout_size (layout_of tags.now sizes.now) ≤ length bytes.now) }
+    ensures { result ≡ layout_is_right bytes.now 0 (layout_of tags.now sizes.now) }
 {
     fields::layout_is_right(bytes, tags, sizes)
 }
@@ -89,8 +89,8 @@ pub extern "C" fn compared_layout(bytes: &[u8], tags: &[u8], sizes: &[u16]) -> b
 // Value k of what a scan keeps: the warm sides, the cold, the thermometers.
 #[unsafe(no_mangle)]
 pub extern "C" fn compared_kept(table: &[u8], scan: &[u8], k: usize) -> u32
-    requires { (length table.now ≡ tableSize) × RightRecord scan.now × (k < 2 * channels + thermometers) }
-    ensures { result ≡ kept_at (keptScan (acceptedSamples (settingsOf ages table.now) scan.now)) k }
+    requires { (length table.now ≡ table_size) × RightRecord scan.now × (k < 2 * channels + thermometers) }
+    ensures { result ≡ kept_at (kept_scan (accepted_samples (settings_of ages table.now) scan.now)) k }
 {
     let kept = acceptance::accepted_scan(table, scan);
     let warm = kept.warm;
@@ -106,7 +106,7 @@ pub extern "C" fn compared_kept(table: &[u8], scan: &[u8], k: usize) -> u32
 }
 
 fn alike_channels(constants: Constants) -> [Channel; CHANNELS]
-    ensures { result ≡ alikeChannels constants }
+    ensures { result ≡ alike_channels constants }
 {
     let channel = Channel { flag: 0, constants };
     [channel; CHANNELS]
@@ -127,9 +127,9 @@ pub extern "C" fn compared_product(
     pairs: &[u32],
     earth: &[u8],
 ) -> u32
-    requires product_size_in_bounds { (productSize ≤ length buffer.old) × (length earth.now ≡ earthSize * channels) × ConstantsRange (record { tc = tc; rise = rise; tnl = tnl; d = d; slope = slope; base = base }) }
-    requires pairs_len { (length pairs.now ≡ pairsSize * channels) × ((k : ℕ) → k < channels → PairsRange (pairsPart pairs.now k)) }
-    ensures { (result ≡ deliveredCount (byPairs pairs.now) (alikeChannels (record { tc = tc; rise = rise; tnl = tnl; d = d; slope = slope; base = base })) earth.now) × (buffer.new ≡ productOf (byPairs pairs.now) number (alikeChannels (record { tc = tc; rise = rise; tnl = tnl; d = d; slope = slope; base = base })) earth.now ++ drop productSize buffer.old) }
+    requires product_size_in_bounds { (product_size ≤ length buffer.old) × (length earth.now ≡ earth_size * channels) × ConstantsRange (record { tc = tc; rise = rise; tnl = tnl; d = d; slope = slope; base = base }) }
+    requires pairs_len { (length pairs.now ≡ pairs_size * channels) × ((k : ℕ) → k < channels → PairsRange (pairs_part pairs.now k)) }
+    ensures { (result ≡ delivered_count (by_pairs pairs.now) (alike_channels (record { tc = tc; rise = rise; tnl = tnl; d = d; slope = slope; base = base })) earth.now) × (buffer.new ≡ product_of (by_pairs pairs.now) number (alike_channels (record { tc = tc; rise = rise; tnl = tnl; d = d; slope = slope; base = base })) earth.now ++ drop product_size buffer.old) }
 {
     let constants = Constants {
         tc,

@@ -4,13 +4,13 @@ use mathlib.Core.Path.{◌≡◌}
 use mathlib.Core.List.{List, []}
 use mathlib.Core.Bool.{true, false}
 use lib.ListN.{take, drop}
-use Rattle.fields.specs.Fields.{Field, headSize, fieldIsRight, fieldValue}
+use Rattle.fields.specs.Fields.{Field, head_size, field_is_right, field_value}
 
 module _ (s : List ℕ) (at : ℕ) (f : Field) where
-  pub value-when-right : fieldIsRight s at f ≡ true → fieldValue s at f ≡ take f.size (drop (at + headSize) s)
-  unfolding fieldValue
-  value-when-right right = rw right
+  pub value_when_right : field_is_right s at f ≡ true → field_value s at f ≡ take f.size (drop (at + head_size) s)
+  unfolding field_value
+  value_when_right right = rw right
 
-  pub value-when-wrong : fieldIsRight s at f ≡ false → fieldValue s at f ≡ []
-  unfolding fieldValue
-  value-when-wrong wrong = rw wrong
+  pub value_when_wrong : field_is_right s at f ≡ false → field_value s at f ≡ []
+  unfolding field_value
+  value_when_wrong wrong = rw wrong

@@ -7,26 +7,26 @@ use Rattle.instrument.specs.declared.Target.{Target}
 use Rattle.instrument.specs.declared.Target.TheVariants.{Kav, Wg}
 use Rattle.instrument.specs.declared.Shelf.{Shelf}
 use Rattle.instrument.specs.declared.Shelf.TheVariants.{KkaShelf, VShelf, WShelf, GShelf}
-use Rattle.instrument.specs.Instrument.{thermometers, firstOf, size_of, shelves, sidePlace, targetPlace, shelfPlace}
+use Rattle.instrument.specs.Instrument.{thermometers, first_of, size_of, shelves, side_place, target_place, shelf_place}
 
-pub side-place-below : (side : Side) → sidePlace side < 2
-side-place-below Warm = omega arith
-side-place-below Cold = omega arith
+pub side_place_below : (side : Side) → side_place side < 2
+side_place_below Warm = omega arith
+side_place_below Cold = omega arith
 
-pub target-place-below : (target : Target) → targetPlace target < 2
-target-place-below Kav = omega arith
-target-place-below Wg = omega arith
+pub target_place_below : (target : Target) → target_place target < 2
+target_place_below Kav = omega arith
+target_place_below Wg = omega arith
 
-pub shelf-place-below : (shelf : Shelf) → shelfPlace shelf < shelves
-shelf-place-below KkaShelf = omega arith
-shelf-place-below VShelf = omega arith
-shelf-place-below WShelf = omega arith
-shelf-place-below GShelf = omega arith
+pub shelf_place_below : (shelf : Shelf) → shelf_place shelf < shelves
+shelf_place_below KkaShelf = omega arith
+shelf_place_below VShelf = omega arith
+shelf_place_below WShelf = omega arith
+shelf_place_below GShelf = omega arith
 
-pub size-at-most : (target : Target) → size_of target ≤ size_of Kav
-size-at-most Kav = omega arith
-size-at-most Wg = omega arith
+pub size_at_most : (target : Target) → size_of target ≤ size_of Kav
+size_at_most Kav = omega arith
+size_at_most Wg = omega arith
 
-pub last-at-most : (target : Target) → firstOf target + size_of target ≤ thermometers
-last-at-most Kav = omega arith
-last-at-most Wg = omega arith
+pub last_at_most : (target : Target) → first_of target + size_of target ≤ thermometers
+last_at_most Kav = omega arith
+last_at_most Wg = omega arith

@@ -23,35 +23,35 @@ abbrev pub size_of : Target → ℕ
 size_of Kav = 8
 size_of Wg = 7
 
-abbrev pub firstOf : Target → ℕ
-firstOf Kav = 0
-firstOf Wg = size_of Kav
+abbrev pub first_of : Target → ℕ
+first_of Kav = 0
+first_of Wg = size_of Kav
 
 -- KAV serves channels 1..15, WG 16..22
-abbrev pub kavChannels : ℕ
-kavChannels = 15
+abbrev pub kav_channels : ℕ
+kav_channels = 15
 
 abbrev pub target_of : ℕ → Target
-target_of c = cond (ltb c kavChannels) Kav Wg
+target_of c = cond (ltb c kav_channels) Kav Wg
 
 -- Request W4: the receiver shelves; channels 1 and 2 use KKA, 3 to 15 V, 16 W, 17 to 22 G
 abbrev pub shelves : ℕ
 shelves = 4
 
-abbrev pub shelfOf : ℕ → Shelf
-shelfOf c = cond (ltb c 2) KkaShelf (cond (ltb c 15) VShelf (cond (ltb c 16) WShelf GShelf))
+abbrev pub shelf_of : ℕ → Shelf
+shelf_of c = cond (ltb c 2) KkaShelf (cond (ltb c 15) VShelf (cond (ltb c 16) WShelf GShelf))
 
 -- where both have a value, warm stands before cold, and KAV before WG; the shelves stand in the order KKA, V, W, G
-abbrev pub sidePlace : Side → ℕ
-sidePlace Warm = 0
-sidePlace Cold = 1
+abbrev pub side_place : Side → ℕ
+side_place Warm = 0
+side_place Cold = 1
 
-abbrev pub targetPlace : Target → ℕ
-targetPlace Kav = 0
-targetPlace Wg = 1
+abbrev pub target_place : Target → ℕ
+target_place Kav = 0
+target_place Wg = 1
 
-abbrev pub shelfPlace : Shelf → ℕ
-shelfPlace KkaShelf = 0
-shelfPlace VShelf = 1
-shelfPlace WShelf = 2
-shelfPlace GShelf = 3
+abbrev pub shelf_place : Shelf → ℕ
+shelf_place KkaShelf = 0
+shelf_place VShelf = 1
+shelf_place WShelf = 2
+shelf_place GShelf = 3

@@ -1,7 +1,7 @@
 // What the instrument has: channels, positions and thermometers, the two sides of a channel's calibration counts, the two warm targets, the
 // four receiver shelves.
 ghost use Rattle.std.specs.Prelude.{◌≡◌};
-ghost use Rattle.instrument.specs.Instrument.{firstOf, size_of, target_of, shelfOf, sidePlace, targetPlace, shelfPlace};
+ghost use Rattle.instrument.specs.Instrument.{first_of, size_of, target_of, shelf_of, side_place, target_place, shelf_place};
 
 pub const CHANNELS: usize = 22;
 
@@ -49,7 +49,7 @@ pub enum Shelf {
 
 // A target's first thermometer, how many it has, and the target that serves channel c.
 pub fn first_of(target: Target) -> usize
-    ensures { result ≡ firstOf target }
+    ensures { result ≡ first_of target }
 {
     match target {
         Target::Kav => 0,
@@ -77,7 +77,7 @@ pub fn target_of(c: usize) -> Target
 
 // The shelf of channel c.
 pub fn shelf_of(c: usize) -> Shelf
-    ensures { result ≡ shelfOf c }
+    ensures { result ≡ shelf_of c }
 {
     if c < FIRST_V {
         return Shelf::KkaShelf;
@@ -93,7 +93,7 @@ pub fn shelf_of(c: usize) -> Shelf
 
 // Where both have a value, warm stands before cold, and KAV before WG; the shelves stand in the order KKA, V, W, G.
 pub fn side_place(side: Side) -> usize
-    ensures { result ≡ sidePlace side }
+    ensures { result ≡ side_place side }
 {
     match side {
         Side::Warm => 0,
@@ -102,7 +102,7 @@ pub fn side_place(side: Side) -> usize
 }
 
 pub fn target_place(target: Target) -> usize
-    ensures { result ≡ targetPlace target }
+    ensures { result ≡ target_place target }
 {
     match target {
         Target::Kav => 0,
@@ -111,7 +111,7 @@ pub fn target_place(target: Target) -> usize
 }
 
 pub fn shelf_place(shelf: Shelf) -> usize
-    ensures { result ≡ shelfPlace shelf }
+    ensures { result ≡ shelf_place shelf }
 {
     match shelf {
         Shelf::KkaShelf => 0,

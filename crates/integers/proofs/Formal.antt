@@ -4,7 +4,7 @@ use mathlib.Core.List.{List}
 use lib.Dec.{T}
 use lib.IntN.{ℤ}
 use Rattle.integers.specs.Fractions.{Fraction, ◌/ᶠ◌, ◌≡ᶠ◌}
-use Rattle.integers.proofs.Ring.{Expression, ◌:+◌, ◌:-◌, ◌:*◌, #, value, multipliedOut, is_zero, ring}
+use Rattle.integers.proofs.Ring.{Expression, ◌:+◌, ◌:-◌, ◌:*◌, #, value, multiplied_out, is_zero, ring}
 
 pub record Formal : Type 0 where
   pub num : Expression
@@ -34,5 +34,5 @@ a ÷ᵉ b = (a.num :* b.den) /ᵉ (a.den :* b.num)
 abbrev pub fraction : Formal → List ℤ → Fraction
 fraction a ρ = value a.num ρ /ᶠ value a.den ρ
 
-pub same-fraction : (ρ : List ℤ) (a b : Formal) → T (is_zero (multipliedOut (a.num :* b.den :- b.num :* a.den))) → fraction a ρ ≡ᶠ fraction b ρ
-same-fraction ρ a b t = ring ρ (a.num :* b.den) (b.num :* a.den) t
+pub same_fraction : (ρ : List ℤ) (a b : Formal) → T (is_zero (multiplied_out (a.num :* b.den :- b.num :* a.den))) → fraction a ρ ≡ᶠ fraction b ρ
+same_fraction ρ a b t = ring ρ (a.num :* b.den) (b.num :* a.den) t

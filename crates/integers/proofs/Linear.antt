@@ -1,5 +1,5 @@
 -- The linear reading: z is `plus z` - `minus z`, two naturals of which one is 0, and `omega` reads naturals.
--- `omega (arith, order, sum-parts x y)` proves an order of ℤ from orders of ℤ and what the operations do to the parts.
+-- `omega (arith, order, sum_parts x y)` proves an order of ℤ from orders of ℤ and what the operations do to the parts.
 use mathlib.Core.Path.{◌≡◌, refl, ap}
 use Prim.Native.Nat.{ℕ, zero, suc, ◌+◌, ◌-◌, ◌≤◌, ◌<◌}
 use native.Mathlib.Decide.{dec_lt}
@@ -18,51 +18,51 @@ minus (pos n) = 0
 minus (negsuc n) = suc n
 
 -- ---- a difference of two naturals
-pub difference-from : (a b : ℕ) → b ≤ a → sub_ℕ a b ≡ pos (a - b)
-difference-from a b h = simp (le-ltb a b h)
+pub difference_from : (a b : ℕ) → b ≤ a → sub_ℕ a b ≡ pos (a - b)
+difference_from a b h = simp (le-ltb a b h)
 
 pub difference_below : (a b : ℕ) → a < b → sub_ℕ a b ≡ negsuc (b - suc a)
 difference_below a b h = simp (lt-ltb a b h)
 
-natural-difference-parts : (a b : ℕ) → plus (sub_ℕ a b) + b ≡ a + minus (sub_ℕ a b)
-natural-difference-parts a b = go (dec_lt a b)
+natural_difference_parts : (a b : ℕ) → plus (sub_ℕ a b) + b ≡ a + minus (sub_ℕ a b)
+natural_difference_parts a b = go (dec_lt a b)
   where
     go : Dec (a < b) → plus (sub_ℕ a b) + b ≡ a + minus (sub_ℕ a b)
     go (yes h) = rw (difference_below a b h) (omega arith)
-    go (no h) = rw (difference-from a b (omega arith)) (omega arith)
+    go (no h) = rw (difference_from a b (omega arith)) (omega arith)
 
 -- ---- what the operations do to the parts
-pub sum-parts : (x y : ℤ) → plus (x +ℤ y) + (minus x + minus y) ≡ plus x + plus y + minus (x +ℤ y)
-sum-parts (pos a) (pos b) = omega arith
-sum-parts (pos a) (negsuc b) = omega (arith, natural-difference-parts a (suc b))
-sum-parts (negsuc a) (pos b) = omega (arith, natural-difference-parts b (suc a))
-sum-parts (negsuc a) (negsuc b) = omega arith
+pub sum_parts : (x y : ℤ) → plus (x +ℤ y) + (minus x + minus y) ≡ plus x + plus y + minus (x +ℤ y)
+sum_parts (pos a) (pos b) = omega arith
+sum_parts (pos a) (negsuc b) = omega (arith, natural_difference_parts a (suc b))
+sum_parts (negsuc a) (pos b) = omega (arith, natural_difference_parts b (suc a))
+sum_parts (negsuc a) (negsuc b) = omega arith
 
-pub plus-neg : (x : ℤ) → plus (neg_ℤ x) ≡ minus x
-plus-neg (pos zero) = refl
-plus-neg (pos (suc n)) = refl
-plus-neg (negsuc n) = refl
+pub plus_neg : (x : ℤ) → plus (neg_ℤ x) ≡ minus x
+plus_neg (pos zero) = refl
+plus_neg (pos (suc n)) = refl
+plus_neg (negsuc n) = refl
 
-pub minus-neg : (x : ℤ) → minus (neg_ℤ x) ≡ plus x
-minus-neg (pos zero) = refl
-minus-neg (pos (suc n)) = refl
-minus-neg (negsuc n) = refl
+pub minus_neg : (x : ℤ) → minus (neg_ℤ x) ≡ plus x
+minus_neg (pos zero) = refl
+minus_neg (pos (suc n)) = refl
+minus_neg (negsuc n) = refl
 
-pub difference-parts : (x y : ℤ) → plus (x -ℤ y) + (minus x + plus y) ≡ plus x + minus y + minus (x -ℤ y)
-difference-parts x y = omega (arith, sum-parts x (neg_ℤ y), plus-neg y, minus-neg y)
+pub difference_parts : (x y : ℤ) → plus (x -ℤ y) + (minus x + plus y) ≡ plus x + minus y + minus (x -ℤ y)
+difference_parts x y = omega (arith, sum_parts x (neg_ℤ y), plus_neg y, minus_neg y)
 
 -- ---- the order and equality by parts
-pub at-most-parts : {x y : ℤ} → x ≤ℤ y → plus x + minus y ≤ plus y + minus x
-at-most-parts {x = pos a} {y = pos b} h = omega (arith, leb→le a b h.le)
-at-most-parts {x = pos a} {y = negsuc b} h = absurd h.le
-at-most-parts {x = negsuc a} {y = pos b} h = omega arith
-at-most-parts {x = negsuc a} {y = negsuc b} h = omega (arith, leb→le b a h.le)
+pub at_most_parts : {x y : ℤ} → x ≤ℤ y → plus x + minus y ≤ plus y + minus x
+at_most_parts {x = pos a} {y = pos b} h = omega (arith, leb→le a b h.le)
+at_most_parts {x = pos a} {y = negsuc b} h = absurd h.le
+at_most_parts {x = negsuc a} {y = pos b} h = omega arith
+at_most_parts {x = negsuc a} {y = negsuc b} h = omega (arith, leb→le b a h.le)
 
-pub parts-at-most : {x y : ℤ} → plus x + minus y ≤ plus y + minus x → x ≤ℤ y
-parts-at-most {x = pos a} {y = pos b} h = record { le = le→leb a b (omega arith) }
-parts-at-most {x = pos a} {y = negsuc b} h = absurd (omega arith)
-parts-at-most {x = negsuc a} {y = pos b} h = record { le = tt }
-parts-at-most {x = negsuc a} {y = negsuc b} h = record { le = le→leb b a (omega arith) }
+pub parts_at_most : {x y : ℤ} → plus x + minus y ≤ plus y + minus x → x ≤ℤ y
+parts_at_most {x = pos a} {y = pos b} h = record { le = le→leb a b (omega arith) }
+parts_at_most {x = pos a} {y = negsuc b} h = absurd (omega arith)
+parts_at_most {x = negsuc a} {y = pos b} h = record { le = tt }
+parts_at_most {x = negsuc a} {y = negsuc b} h = record { le = le→leb b a (omega arith) }
 
 pub below_parts : {x y : ℤ} → x <ℤ y → plus x + minus y < plus y + minus x
 below_parts {x = pos a} {y = pos b} h = omega (arith, ltb→lt a b h.lt)
@@ -76,14 +76,14 @@ parts_below {x = pos a} {y = negsuc b} h = absurd (omega arith)
 parts_below {x = negsuc a} {y = pos b} h = record { lt = tt }
 parts_below {x = negsuc a} {y = negsuc b} h = record { lt = lt→ltb b a (omega arith) }
 
-pub parts-equal : (x y : ℤ) → plus x + minus y ≡ plus y + minus x → x ≡ y
-parts-equal (pos a) (pos b) h = ap pos (omega arith)
-parts-equal (pos a) (negsuc b) h = absurd (omega arith)
-parts-equal (negsuc a) (pos b) h = absurd (omega arith)
-parts-equal (negsuc a) (negsuc b) h = ap negsuc (omega arith)
+pub parts_equal : (x y : ℤ) → plus x + minus y ≡ plus y + minus x → x ≡ y
+parts_equal (pos a) (pos b) h = ap pos (omega arith)
+parts_equal (pos a) (negsuc b) h = absurd (omega arith)
+parts_equal (negsuc a) (pos b) h = absurd (omega arith)
+parts_equal (negsuc a) (negsuc b) h = ap negsuc (omega arith)
 
-pub ruleset order = (at-most-parts, below_parts, parts-at-most, parts_below)
+pub ruleset order = (at_most_parts, below_parts, parts_at_most, parts_below)
 
-pub size-parts : (x : ℤ) → nat_abs x ≡ plus x + minus x
-size-parts (pos a) = omega arith
-size-parts (negsuc a) = omega arith
+pub size_parts : (x : ℤ) → nat_abs x ≡ plus x + minus x
+size_parts (pos a) = omega arith
+size_parts (negsuc a) = omega arith

@@ -7,12 +7,12 @@ unfoldable pub floor : ℤ → ℤ → ℤ
 floor (pos n) b = pos (n / nat_abs b)
 floor (negsuc n) b = negsuc (n / nat_abs b)
 
-abbrev pub isEven : ℤ → Bool
-isEven n = eqb (nat_abs n % 2) 0
+abbrev pub is_even : ℤ → Bool
+is_even n = eqb (nat_abs n % 2) 0
 
 -- of a whole number and the one after it the even one
-abbrev pub evenOf : ℤ → ℤ
-evenOf n = cond (isEven n) n (n +ℤ pos 1)
+abbrev pub even_of : ℤ → ℤ
+even_of n = cond (is_even n) n (n +ℤ pos 1)
 
 -- r(a, b), b above 0: the nearest whole number to a / b, and of two equally near the even one. a / b is past / b above its floor, and
 -- short / b below the whole number after it.
@@ -21,4 +21,4 @@ r a b =
     let low = floor a b in
     let past = a -ℤ b *ℤ low in
     let short = b -ℤ past in
-    cond (lt_z past short) low (cond (lt_z short past) (low +ℤ pos 1) (evenOf low))
+    cond (lt_z past short) low (cond (lt_z short past) (low +ℤ pos 1) (even_of low))

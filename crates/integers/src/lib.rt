@@ -1,6 +1,6 @@
 // Whole-number division and rounding on i64, and the laws on ℤ that every other crate uses.
 ghost use Rattle.std.specs.Prelude.{◌≡◌, ◌<◌, ◌≤◌, pos, ◌-ℤ◌, ◌*ℤ◌, ◌<ℤ◌, ◌≤ℤ◌};
-ghost use Rattle.integers.specs.Rounding.{floor, isEven, r};
+ghost use Rattle.integers.specs.Rounding.{floor, is_even, r};
 ghost use Rattle.integers.specs.Bounds.{Bounded};
 
 // The floor of a / b.
@@ -28,7 +28,7 @@ fn remainder(a: i64, b: i64) -> i64
 }
 
 fn is_even(n: i64) -> bool
-    ensures { result ≡ isEven n }
+    ensures { result ≡ is_even n }
 {
     n % 2 == 0
 }

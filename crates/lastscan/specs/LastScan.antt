@@ -3,16 +3,16 @@
 use Rattle.std.specs.Prelude.{ℕ, List, true, false, get_or, replicate}
 use Rattle.instrument.specs.Instrument.{channels}
 use Rattle.scene.specs.declared.Channel.{Channel}
-use Rattle.product.specs.Scenes.{noChannel}
+use Rattle.product.specs.Scenes.{no_channel}
 use Rattle.lastscan.specs.declared.LastScan.{LastScan}
 
 -- before the first accepted scan: its channels are all 0, and no answer depends on them
-unfoldable pub nothingKept : LastScan
-nothingKept = record { any = false; channels = replicate channels noChannel }
+unfoldable pub nothing_kept : LastScan
+nothing_kept = record { any = false; channels = replicate channels no_channel }
 
 -- of a scan with these channels
-abbrev pub keptOf : List Channel → LastScan
-keptOf all = record { any = true; channels = all }
+abbrev pub kept_of : List Channel → LastScan
+kept_of all = record { any = true; channels = all }
 
-abbrev pub channelIn : LastScan → ℕ → Channel
-channelIn last c = get_or last.channels c noChannel
+abbrev pub channel_in : LastScan → ℕ → Channel
+channel_in last c = get_or last.channels c no_channel

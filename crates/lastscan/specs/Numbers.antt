@@ -1,21 +1,21 @@
 -- What is kept of the last accepted scan as numbers of 32 bits: 1 if a scan is kept and else 0; then nine numbers for each channel.
 use Rattle.std.specs.Prelude.{ℕ, ◌+◌, ◌*◌, ◌/◌, ◌%◌, ◌<◌, ◌≤◌, List, [], ◌∷◌, Bool, ◌&&◌, cond, eqb, leb, ℤ, pos, nat_abs, ◌+ℤ◌, length, get_or, take, drop}
 use Rattle.lists.specs.Build.{tabulate, cells}
-use Rattle.lists.specs.Count.{every, allHold}
+use Rattle.lists.specs.Count.{every, all_hold}
 use Rattle.fields.specs.Numbers.{signed}
 use Rattle.instrument.specs.Instrument.{channels}
-use Rattle.thermometer.specs.Reading.{fromTo}
-use Rattle.table.specs.Ranges.{sizeTo}
+use Rattle.thermometer.specs.Reading.{from_to}
+use Rattle.table.specs.Ranges.{size_to}
 use Rattle.scene.specs.declared.Channel.{Channel}
 use Rattle.lastscan.specs.declared.LastScan.{LastScan}
-use Rattle.lastscan.specs.LastScan.{channelIn}
+use Rattle.lastscan.specs.LastScan.{channel_in}
 
 -- how many numbers a channel has, and all channels with the first number
-abbrev pub channelNumbers : ℕ
-channelNumbers = 9
+abbrev pub channel_numbers : ℕ
+channel_numbers = 9
 
-abbrev pub lastNumbers : ℕ
-lastNumbers = 1 + channelNumbers * channels
+abbrev pub last_numbers : ℕ
+last_numbers = 1 + channel_numbers * channels
 
 -- ---- a scan as numbers
 -- the two halves of a number of 64 bits
@@ -30,24 +30,24 @@ abbrev pub complement : ℤ → ℕ
 complement n = nat_abs (n +ℤ pos 4294967296) % 4294967296
 
 -- its flag, Tc, Tw - Tc, TNL, D in two halves, 12 × Wc × Ww, and Ac × Ww in two halves
-abbrev pub numbersOfChannel : Channel → List ℕ
-numbersOfChannel channel =
+abbrev pub numbers_of_channel : Channel → List ℕ
+numbers_of_channel channel =
     let k = channel.constants in
     channel.flag ∷ nat_abs k.tc ∷ nat_abs k.rise ∷ complement k.tnl ∷ high_half k.d ∷ low_half k.d ∷ nat_abs k.slope ∷ high_half k.base ∷ low_half k.base ∷ []
 
-unfoldable pub numbersOf : LastScan → List ℕ
-numbersOf last = cond last.any 1 0 ∷ cells (λ c. numbersOfChannel (channelIn last c)) channels
+unfoldable pub numbers_of : LastScan → List ℕ
+numbers_of last = cond last.any 1 0 ∷ cells (λ c. numbers_of_channel (channel_in last c)) channels
 
 -- ---- numbers as a scan
 abbrev pub wide : (high low : ℕ) → ℕ
 wide high low = 4294967296 * high + low
 
 -- the nine numbers of channel c
-abbrev pub numbersPart : List ℕ → ℕ → List ℕ
-numbersPart numbers c = take channelNumbers (drop (1 + channelNumbers * c) numbers)
+abbrev pub numbers_part : List ℕ → ℕ → List ℕ
+numbers_part numbers c = take channel_numbers (drop (1 + channel_numbers * c) numbers)
 
-unfoldable pub channelBy : List ℕ → Channel
-channelBy part =
+unfoldable pub channel_by : List ℕ → Channel
+channel_by part =
     let at : ℕ → ℕ = λ k. get_or part k 0 in
     record {
       flag = at 0;
@@ -62,27 +62,27 @@ channelBy part =
     }
 
 unfoldable pub last_by : List ℕ → LastScan
-last_by numbers = record { any = eqb (get_or numbers 0 0) 1; channels = tabulate (λ c. channelBy (numbersPart numbers c)) channels }
+last_by numbers = record { any = eqb (get_or numbers 0 0) 1; channels = tabulate (λ c. channel_by (numbers_part numbers c)) channels }
 
 -- ---- which numbers are those of a scan
 -- the constants of a channel with flag 0 are in their ranges; D is from 1 to 65,535 × 12 × Wc × Ww
-unfoldable pub constantsInside : List ℕ → Bool
-constantsInside part =
+unfoldable pub constants_inside : List ℕ → Bool
+constants_inside part =
     let at : ℕ → ℕ = λ k. get_or part k 0 in
-    allHold (fromTo 11166 43934 (at 1) ∷ fromTo 825032 1357512 (at 2) ∷ sizeTo 8192 (signed 0x8000_0000 (at 3))
-    ∷ fromTo 1 (65535 * at 6) (wide (at 4) (at 5)) ∷ leb (at 6) 780300 ∷ leb (wide (at 7) (at 8)) 51136960500 ∷ [])
+    all_hold (from_to 11166 43934 (at 1) ∷ from_to 825032 1357512 (at 2) ∷ size_to 8192 (signed 0x8000_0000 (at 3))
+    ∷ from_to 1 (65535 * at 6) (wide (at 4) (at 5)) ∷ leb (at 6) 780300 ∷ leb (wide (at 7) (at 8)) 51136960500 ∷ [])
 
-unfoldable pub allZero : List ℕ → Bool
-allZero numbers = every (λ i. eqb (get_or numbers i 0) 0) (length numbers)
+unfoldable pub all_zero : List ℕ → Bool
+all_zero numbers = every (λ i. eqb (get_or numbers i 0) 0) (length numbers)
 
 -- a channel with flag 1 to 4 has no other number
-unfoldable pub channelNumbersInside : List ℕ → Bool
-channelNumbersInside part = cond (eqb (get_or part 0 0) 0) (constantsInside part) (leb (get_or part 0 0) 4 && allZero (drop 1 part))
+unfoldable pub channel_numbers_inside : List ℕ → Bool
+channel_numbers_inside part = cond (eqb (get_or part 0 0) 0) (constants_inside part) (leb (get_or part 0 0) 4 && all_zero (drop 1 part))
 
 -- nothing is kept, or a scan is, where one was accepted
-unfoldable pub lastInside : (accepted : Bool) → List ℕ → Bool
-lastInside accepted numbers =
-    cond (eqb (get_or numbers 0 0) 1) (accepted && every (λ c. channelNumbersInside (numbersPart numbers c)) channels) (allZero numbers)
+unfoldable pub last_inside : (accepted : Bool) → List ℕ → Bool
+last_inside accepted numbers =
+    cond (eqb (get_or numbers 0 0) 1) (accepted && every (λ c. channel_numbers_inside (numbers_part numbers c)) channels) (all_zero numbers)
 
 -- what fits a channel: a flag of a byte, and wide numbers of at most 63 bits
 pub record SmallPart (part : List ℕ) : Type 0 where

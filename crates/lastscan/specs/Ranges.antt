@@ -3,15 +3,15 @@ use Rattle.std.specs.Prelude.{ℕ, ◌<◌, ◌≤◌, ◌≡◌, true, false, p
 use Rattle.integers.specs.Bounds.{Bounded}
 use Rattle.instrument.specs.Instrument.{channels}
 use Rattle.scene.specs.Ranges.{ConstantsRange}
-use Rattle.scene.specs.Scene.{noConstants}
+use Rattle.scene.specs.Scene.{no_constants}
 use Rattle.scene.specs.declared.Channel.{Channel}
 use Rattle.lastscan.specs.declared.LastScan.{LastScan}
-use Rattle.lastscan.specs.LastScan.{nothingKept, channelIn}
+use Rattle.lastscan.specs.LastScan.{nothing_kept, channel_in}
 
 -- what fits its numbers
 pub record SmallChannel (channel : Channel) : Type 0 where
   pub tc : Bounded channel.constants.tc (pos 43934)
-  pub tc-low : pos 0 ≤ℤ channel.constants.tc
+  pub tc_low : pos 0 ≤ℤ channel.constants.tc
   pub rise : Bounded channel.constants.rise (pos 1357512)
   pub rise-low : pos 0 ≤ℤ channel.constants.rise
   pub tnl : Bounded channel.constants.tnl (pos 8192)
@@ -26,9 +26,9 @@ pub record SmallChannel (channel : Channel) : Type 0 where
 pub record KeptChannel (channel : Channel) : Type 0 where
   pub flag : channel.flag ≤ 4
   pub constants : channel.flag ≡ 0 → ConstantsRange channel.constants
-  pub none : (channel.flag ≡ 0 → ⊥) → channel.constants ≡ noConstants
+  pub none : (channel.flag ≡ 0 → ⊥) → channel.constants ≡ no_constants
 
 pub record LastRange (last : LastScan) : Type 0 where
   pub long : length last.channels ≡ channels
-  pub kept : last.any ≡ true → (c : ℕ) → c < channels → KeptChannel (channelIn last c)
-  pub nothing : last.any ≡ false → last ≡ nothingKept
+  pub kept : last.any ≡ true → (c : ℕ) → c < channels → KeptChannel (channel_in last c)
+  pub nothing : last.any ≡ false → last ≡ nothing_kept

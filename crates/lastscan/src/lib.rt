@@ -4,11 +4,11 @@ ghost use Rattle.integers.specs.Bounds.{Bounded};
 ghost use Rattle.lists.specs.Build.{put};
 ghost use Rattle.lists.specs.Count.{every};
 ghost use Rattle.instrument.specs.Instrument.{channels};
-ghost use Rattle.thermometer.specs.Reading.{fromTo};
-ghost use Rattle.product.specs.Scenes.{noChannel};
-ghost use Rattle.lastscan.specs.LastScan.{nothingKept};
+ghost use Rattle.thermometer.specs.Reading.{from_to};
+ghost use Rattle.product.specs.Scenes.{no_channel};
+ghost use Rattle.lastscan.specs.LastScan.{nothing_kept};
 ghost use Rattle.lastscan.specs.Ranges.{SmallChannel, LastRange};
-ghost use Rattle.lastscan.specs.Numbers.{channelNumbers, lastNumbers, high_half, low_half, complement, numbersOfChannel, numbersOf, wide, numbersPart, channelBy, last_by, constantsInside, allZero, channelNumbersInside, lastInside, SmallPart};
+ghost use Rattle.lastscan.specs.Numbers.{channel_numbers, last_numbers, high_half, low_half, complement, numbers_of_channel, numbers_of, wide, numbers_part, channel_by, last_by, constants_inside, all_zero, channel_numbers_inside, last_inside, SmallPart};
 
 use instrument::CHANNELS;
 use scene::{Channel, Constants};
@@ -26,7 +26,7 @@ const CHANNEL_NUMBERS: usize = 9;
 pub const LAST_NUMBERS: usize = 1 + CHANNEL_NUMBERS * CHANNELS;
 
 fn no_channel() -> Channel
-    ensures { result ≡ noChannel }
+    ensures { result ≡ no_channel }
 {
     Channel {
         flag: 0,
@@ -36,7 +36,7 @@ fn no_channel() -> Channel
 
 // Before the first accepted scan.
 pub fn nothing_kept() -> LastScan
-    ensures { result ≡ nothingKept }
+    ensures { result ≡ nothing_kept }
 {
     LastScan {
         any: false,
@@ -66,7 +66,7 @@ fn halves_of(n: i64) -> [u32; 2]
 // The nine numbers of a channel.
 fn numbers_of_channel(channel: Channel) -> [u32; CHANNEL_NUMBERS]
     requires { SmallChannel channel }
-    ensures { result ≡ numbersOfChannel channel }
+    ensures { result ≡ numbers_of_channel channel }
 {
     let k = channel.constants;
     let d = halves_of(k.d);
@@ -86,8 +86,8 @@ fn numbers_of_channel(channel: Channel) -> [u32; CHANNEL_NUMBERS]
 
 // The same, put from place `at` on.
 fn put_channel(out: &mut [u32], at: usize, channel: Channel)
-    requires { (at + channelNumbers ≤ length out.old) × SmallChannel channel }
-    ensures { out.new ≡ put out.old at (numbersOfChannel channel) }
+    requires { (at + channel_numbers ≤ length out.old) × SmallChannel channel }
+    ensures { out.new ≡ put out.old at (numbers_of_channel channel) }
 {
     let numbers = numbers_of_channel(channel);
     lists::copy(&numbers, out, at);
@@ -105,7 +105,7 @@ fn first_number(any: bool) -> u32
 
 pub fn numbers_of(last: LastScan) -> [u32; LAST_NUMBERS]
     requires { LastRange last }
-    ensures { result ≡ numbersOf last }
+    ensures { result ≡ numbers_of last }
 {
     let channels = last.channels;
     let mut out = [0u32; LAST_NUMBERS];
@@ -125,8 +125,8 @@ fn wide_of(high: u32, low: u32) -> u64
 }
 
 fn constants_inside(part: &[u32]) -> bool
-    requires { length part.now ≡ channelNumbers }
-    ensures { result ≡ constantsInside part.now }
+    requires { length part.now ≡ channel_numbers }
+    ensures { result ≡ constants_inside part.now }
 {
     let d = wide_of(part[4], part[5]);
     let tests = [
@@ -142,7 +142,7 @@ fn constants_inside(part: &[u32]) -> bool
 
 // D is from 1 to 65,535 × 12 × Wc × Ww.
 fn d_inside(d: u64, slope: u32) -> bool
-    ensures { result ≡ fromTo 1 (65535 * slope) d }
+    ensures { result ≡ from_to 1 (65535 * slope) d }
 {
     if d < 1 {
         return false;
@@ -151,7 +151,7 @@ fn d_inside(d: u64, slope: u32) -> bool
 }
 
 fn all_zero(numbers: &[u32]) -> bool
-    ensures { result ≡ allZero numbers.now }
+    ensures { result ≡ all_zero numbers.now }
 {
     for i in 0..numbers.len() {
         if numbers[i] != 0 {
@@ -162,8 +162,8 @@ fn all_zero(numbers: &[u32]) -> bool
 }
 
 fn channel_inside(part: &[u32]) -> bool
-    requires { length part.now ≡ channelNumbers }
-    ensures { result ≡ channelNumbersInside part.now }
+    requires { length part.now ≡ channel_numbers }
+    ensures { result ≡ channel_numbers_inside part.now }
 {
     if part[0] == 0 {
         return constants_inside(part);
@@ -176,16 +176,16 @@ fn channel_inside(part: &[u32]) -> bool
 
 // The nine numbers of channel c.
 fn part_of(numbers: &[u32], c: usize) -> &[u32]
-    requires { (length numbers.now ≡ lastNumbers) × (c < channels) }
-    ensures { result.now ≡ numbersPart numbers.now c }
+    requires { (length numbers.now ≡ last_numbers) × (c < channels) }
+    ensures { result.now ≡ numbers_part numbers.now c }
 {
     let at = 1 + CHANNEL_NUMBERS * c;
     &numbers[at..at + CHANNEL_NUMBERS]
 }
 
 fn channels_inside(numbers: &[u32]) -> bool
-    requires { length numbers.now ≡ lastNumbers }
-    ensures { result ≡ every (λ c. channelNumbersInside (numbersPart numbers.now c)) channels }
+    requires { length numbers.now ≡ last_numbers }
+    ensures { result ≡ every (λ c. channel_numbers_inside (numbers_part numbers.now c)) channels }
 {
     for c in 0..CHANNELS {
         if !channel_inside(part_of(numbers, c)) {
@@ -197,8 +197,8 @@ fn channels_inside(numbers: &[u32]) -> bool
 
 // Whether nothing is kept, or a scan is, where one was accepted.
 pub fn last_inside(accepted: bool, numbers: &[u32]) -> bool
-    requires { length numbers.now ≡ lastNumbers }
-    ensures { result ≡ lastInside accepted numbers.now }
+    requires { length numbers.now ≡ last_numbers }
+    ensures { result ≡ last_inside accepted numbers.now }
 {
     if numbers[0] != 1 {
         return all_zero(numbers);
@@ -212,8 +212,8 @@ pub fn last_inside(accepted: bool, numbers: &[u32]) -> bool
 // ---- numbers as a scan
 
 fn channel_by(part: &[u32]) -> Channel
-    requires { (length part.now ≡ channelNumbers) × SmallPart part.now }
-    ensures { result ≡ channelBy part.now }
+    requires { (length part.now ≡ channel_numbers) × SmallPart part.now }
+    ensures { result ≡ channel_by part.now }
 {
     Channel {
         flag: part[0] as u8,
@@ -230,7 +230,7 @@ fn channel_by(part: &[u32]) -> Channel
 
 // The scan that these numbers are.
 pub fn last_by(numbers: &[u32]) -> LastScan
-    requires { (length numbers.now ≡ lastNumbers) × ((c : ℕ) → c < channels → SmallPart (numbersPart numbers.now c)) }
+    requires { (length numbers.now ≡ last_numbers) × ((c : ℕ) → c < channels → SmallPart (numbers_part numbers.now c)) }
     ensures { result ≡ last_by numbers.now }
 {
     let mut all = [no_channel(); CHANNELS];

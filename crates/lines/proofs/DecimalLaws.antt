@@ -10,7 +10,7 @@ use lib.Dec.{leb}
 use lib.ListN.{length, length-append}
 use borrow.Author.Tests.{le-leb, lt-leb}
 use Rattle.io.specs.Digits.{hex_digit_ascii, last_digits, IsDigitCount}
-use Rattle.lists.proofs.Count.{count-of-first}
+use Rattle.lists.proofs.Count.{count_of_first}
 use Rattle.lines.specs.Lines.{places, decimal}
 
 pub length_digits : (b k n : ℕ) → length (last_digits b k n) ≡ k
@@ -23,35 +23,35 @@ below_power zero = omega arith
 below_power (suc k) = rw (pow-suc 10 k) (omega (arith, below_power k))
 
 module _ (n r : ℕ) (fewest : IsDigitCount 10 1 n r) where
-  few-reached : Dec (1 < r) → r - 1 ≤ n
-  few-reached (yes more) = omega (arith, below_power (r - 1), fewest.2 more)
-  few-reached (no one) = omega (arith, fewest.0)
+  few_reached : Dec (1 < r) → r - 1 ≤ n
+  few_reached (yes more) = omega (arith, below_power (r - 1), fewest.2 more)
+  few_reached (no one) = omega (arith, fewest.0)
 
   reached : (k : ℕ) → k < r - 1 → 10 ^ (k + 1) ≤ n
   reached k below =
       let powers : 10 ^ (k + 1) ≤ 10 ^ (r - 1) = pow-le-pow_right (omega arith) (omega arith) in
       le_trans powers (fewest.2 (omega arith))
 
-  not-reached : (k : ℕ) → r - 1 ≤ k → n < 10 ^ (k + 1)
-  not-reached k past =
+  not_reached : (k : ℕ) → r - 1 ≤ k → n < 10 ^ (k + 1)
+  not_reached k past =
       let powers : 10 ^ r ≤ 10 ^ (k + 1) = pow-le-pow_right (omega arith) (omega arith) in
       lt_of_lt_of_le fewest.1 powers
 
-  pub places-are-fewest : places n ≡ r
+  pub places_are_fewest : places n ≡ r
   unfolding places
-  places-are-fewest =
-      let counted = count-of-first (λ k. leb (10 ^ (k + 1)) n) (r - 1) n (few-reached (dec_lt 1 r))
+  places_are_fewest =
+      let counted = count_of_first (λ k. leb (10 ^ (k + 1)) n) (r - 1) n (few_reached (dec_lt 1 r))
       (λ k below. le-leb (10 ^ (k + 1)) n (reached k below))
-      (λ k past below. lt-leb (10 ^ (k + 1)) n (not-reached k past)) in
+      (λ k past below. lt-leb (10 ^ (k + 1)) n (not_reached k past)) in
       ap (λ (m : ℕ). 1 + m) counted ∙ omega (arith, fewest.0)
 
-  pub digits-are-decimal : last_digits 10 r n ≡ decimal n
+  pub digits_are_decimal : last_digits 10 r n ≡ decimal n
   unfolding decimal
-  digits-are-decimal = ap (λ (k : ℕ). last_digits 10 k n) (sym places-are-fewest)
+  digits_are_decimal = ap (λ (k : ℕ). last_digits 10 k n) (sym places_are_fewest)
 
   -- a number of 32 bits
-  pub ten-digits : n < 4294967296 → r ≤ 10
-  ten-digits small = by_order (dec_le r 10)
+  pub ten_digits : n < 4294967296 → r ≤ 10
+  ten_digits small = by_order (dec_le r 10)
     where
       by_order : Dec (r ≤ 10) → r ≤ 10
       by_order (yes few) = few

@@ -9,9 +9,9 @@ use Rattle.lists.specs.Build.{tabulate}
 use Rattle.lists.specs.Count.{count}
 use Rattle.lists.specs.Tests.{Verdict, passes, fails}
 use Rattle.fields.specs.Numbers.{u32_at}
-use Rattle.fields.specs.Fields.{valueStart, valueIn}
+use Rattle.fields.specs.Fields.{value_start, value_in}
 use Rattle.instrument.specs.Instrument.{channels}
-use Rattle.product.specs.Product.{productLayout}
+use Rattle.product.specs.Product.{product_layout}
 use Rattle.calibrator.specs.Refusals.{Reply, delivered, refused}
 use Rattle.lines.specs.declared.Stop.{Stop}
 use Rattle.lines.specs.declared.Stop.TheVariants.{InputUnread, OutputUnwritten}
@@ -29,35 +29,35 @@ places n = 1 + count (λ k. leb (10 ^ (k + 1)) n) n
 unfoldable pub decimal : ℕ → List ℕ
 decimal n = last_digits 10 (places n) n
 
-unfoldable pub refusedLine : ℕ → List ℕ
-refusedLine number = ascii "refused " ++ decimal number ++ ascii "\n"
+unfoldable pub refused_line : ℕ → List ℕ
+refused_line number = ascii "refused " ++ decimal number ++ ascii "\n"
 
 -- The flags of a product are 0 to 4 (decision 18), which are their own digits. The line of any other bytes shows their last digits.
-unfoldable pub flagDigits : List ℕ → List ℕ
-flagDigits flags = tabulate (λ c. 48 + get_or flags c 0 % 10) channels
+unfoldable pub flag_digits : List ℕ → List ℕ
+flag_digits flags = tabulate (λ c. 48 + get_or flags c 0 % 10) channels
 
-unfoldable pub scanLine : ℕ → ℕ → List ℕ → List ℕ
-scanLine number count flags =
-    ascii "scan " ++ decimal number ++ ascii " delivered " ++ decimal count ++ ascii " flags " ++ flagDigits flags ++ ascii "\n"
+unfoldable pub scan_line : ℕ → ℕ → List ℕ → List ℕ
+scan_line number count flags =
+    ascii "scan " ++ decimal number ++ ascii " delivered " ++ decimal count ++ ascii " flags " ++ flag_digits flags ++ ascii "\n"
 
 -- of a product: the value of field 0x20 as a number, and the value of field 0x21
 abbrev pub number_in : List ℕ → ℕ
-number_in product = u32_at product (valueStart productLayout 0)
+number_in product = u32_at product (value_start product_layout 0)
 
-abbrev pub flagsIn : List ℕ → List ℕ
-flagsIn product = valueIn productLayout 1 product
+abbrev pub flags_in : List ℕ → List ℕ
+flags_in product = value_in product_layout 1 product
 
 -- the line of a feed's answer and the product that it left
-unfoldable pub replyLine : Reply → List ℕ → List ℕ
-replyLine (delivered n) product = scanLine (number_in product) n (flagsIn product)
-replyLine (refused n) product = refusedLine n
+unfoldable pub reply_line : Reply → List ℕ → List ℕ
+reply_line (delivered n) product = scan_line (number_in product) n (flags_in product)
+reply_line (refused n) product = refused_line n
 
 -- the line of an opening, of a table or of a bias file; an accepted one has none
-unfoldable pub openingLine : Verdict → List ℕ
-openingLine passes = []
-openingLine (fails number) = refusedLine number
+unfoldable pub opening_line : Verdict → List ℕ
+opening_line passes = []
+opening_line (fails number) = refused_line number
 
 -- the last line of a program that ends early, on standard error
-unfoldable pub stopLine : Stop → List ℕ
-stopLine InputUnread = ascii "stopped: standard input cannot be read\n"
-stopLine OutputUnwritten = ascii "stopped: standard output cannot be written\n"
+unfoldable pub stop_line : Stop → List ℕ
+stop_line InputUnread = ascii "stopped: standard input cannot be read\n"
+stop_line OutputUnwritten = ascii "stopped: standard output cannot be written\n"

@@ -3,11 +3,11 @@ ghost use Rattle.std.specs.Prelude.{◌≡◌, ◌++◌, ◌+◌, ◌≤◌, len
 ghost use Rattle.io.specs.Counts.{IsPrefixLen};
 ghost use Rattle.lists.specs.Build.{put};
 ghost use Rattle.instrument.specs.Instrument.{channels};
-ghost use Rattle.table.specs.Opening.{verdictOf};
-ghost use Rattle.calibrator.specs.Refusals.{replyOf};
+ghost use Rattle.table.specs.Opening.{verdict_of};
+ghost use Rattle.calibrator.specs.Refusals.{reply_of};
 ghost use Rattle.calibrator.specs.Feeding.{step, Sound};
-ghost use Rattle.lines.specs.Lines.{decimal, refusedLine, flagDigits, scanLine, replyLine, openingLine, stopLine};
-ghost use Rattle.lines.specs.Steps.{listedLine, listed_of, calibratedLine, calibratedOf};
+ghost use Rattle.lines.specs.Lines.{decimal, refused_line, flag_digits, scan_line, reply_line, opening_line, stop_line};
+ghost use Rattle.lines.specs.Steps.{listed_line, listed_of, calibrated_line, calibrated_of};
 
 use calibrator::{Answer, Calibrator};
 use instrument::CHANNELS;
@@ -80,7 +80,7 @@ fn put_labelled(out: &mut [u8], at: usize, label: &[u8], n: u32) -> usize
 
 fn flag_digits(flags: &[u8]) -> [u8; CHANNELS]
     requires { length flags.now ≡ channels }
-    ensures { result ≡ flagDigits flags.now }
+    ensures { result ≡ flag_digits flags.now }
 {
     let mut digits = [0u8; CHANNELS];
     for c in 0..CHANNELS {
@@ -93,7 +93,7 @@ fn flag_digits(flags: &[u8]) -> [u8; CHANNELS]
 
 pub fn refused_line(number: u8, out: &mut [u8; LONGEST]) -> usize
     ensures prefix_len { IsPrefixLen result out.new }
-    ensures value { (result ≡ length (refusedLine number)) × (out.new ≡ put out.old 0 (refusedLine number)) }
+    ensures value { (result ≡ length (refused_line number)) × (out.new ≡ put out.old 0 (refused_line number)) }
 {
     let line: &mut [u8] = out;
     let end = put_labelled(line, 0, b"refused ", number as u32);
@@ -103,7 +103,7 @@ pub fn refused_line(number: u8, out: &mut [u8; LONGEST]) -> usize
 fn scan_line(number: u32, delivered: u32, flags: &[u8], out: &mut [u8; LONGEST]) -> usize
     requires { length flags.now ≡ channels }
     ensures prefix_len { IsPrefixLen result out.new }
-    ensures value { (result ≡ length (scanLine number delivered flags.now)) × (out.new ≡ put out.old 0 (scanLine number delivered flags.now)) }
+    ensures value { (result ≡ length (scan_line number delivered flags.now)) × (out.new ≡ put out.old 0 (scan_line number delivered flags.now)) }
 {
     let digits = flag_digits(flags);
     let line: &mut [u8] = out;
@@ -117,7 +117,7 @@ fn scan_line(number: u32, delivered: u32, flags: &[u8], out: &mut [u8; LONGEST])
 // The line of a feed's answer; of an accepted one, `product` is what it left.
 pub fn answer_line(answer: Answer, product: &[u8; PRODUCT_SIZE], out: &mut [u8; LONGEST]) -> usize
     ensures prefix_len { IsPrefixLen result out.new }
-    ensures value { (result ≡ length (replyLine (replyOf answer) product.now)) × (out.new ≡ put out.old 0 (replyLine (replyOf answer) product.now)) }
+    ensures value { (result ≡ length (reply_line (reply_of answer) product.now)) × (out.new ≡ put out.old 0 (reply_line (reply_of answer) product.now)) }
 {
     match answer {
         Answer::Accepted(delivered) => {
@@ -132,7 +132,7 @@ pub fn answer_line(answer: Answer, product: &[u8; PRODUCT_SIZE], out: &mut [u8; 
 // The line of an opening, of a table or of a bias file; an accepted one has none.
 pub fn opening_line(opening: Opening, out: &mut [u8; LONGEST]) -> usize
     ensures prefix_len { IsPrefixLen result out.new }
-    ensures value { (result ≡ length (openingLine (verdictOf opening))) × (out.new ≡ put out.old 0 (openingLine (verdictOf opening))) }
+    ensures value { (result ≡ length (opening_line (verdict_of opening))) × (out.new ≡ put out.old 0 (opening_line (verdict_of opening))) }
 {
     match opening {
         Opening::Accepted => 0,
@@ -145,7 +145,7 @@ pub fn opening_line(opening: Opening, out: &mut [u8; LONGEST]) -> usize
 // The last line of a program that ends early.
 pub fn stop_line(stop: Stop, out: &mut [u8; LONGEST]) -> usize
     ensures prefix_len { IsPrefixLen result out.new }
-    ensures value { (result ≡ length (stopLine stop)) × (out.new ≡ put out.old 0 (stopLine stop)) }
+    ensures value { (result ≡ length (stop_line stop)) × (out.new ≡ put out.old 0 (stop_line stop)) }
 {
     match stop {
         Stop::InputUnread => put_text(out, 0, b"stopped: standard input cannot be read\n"),
@@ -159,7 +159,7 @@ pub fn stop_line(stop: Stop, out: &mut [u8; LONGEST]) -> usize
 pub fn list_record(calibrator: Calibrator, scan: &[u8], out: &mut [u8; LONGEST]) -> Listed
     requires { Sound calibrator }
     ensures prefix_len { IsPrefixLen result.size out.new }
-    ensures value { (result ≡ listed_of calibrator scan.now) × (out.new ≡ put out.old 0 (listedLine calibrator scan.now)) × Sound result.calibrator }
+    ensures value { (result ≡ listed_of calibrator scan.now) × (out.new ≡ put out.old 0 (listed_line calibrator scan.now)) × Sound result.calibrator }
 {
     let mut product = [0u8; PRODUCT_SIZE];
     let fed = calibrator.feed(scan, &mut product);
@@ -182,7 +182,7 @@ pub fn calibrate_record(
     requires { Sound calibrator }
     ensures prefix_len { IsPrefixLen result.output product.new }
     ensures prefix_len_2 { IsPrefixLen result.errors line.new }
-    ensures value { (result ≡ calibratedOf calibrator scan.entry.now) × (product.new ≡ (step calibrator (record { scan = scan.entry.now; buffer = product.old })).outcome.buffer) × (line.new ≡ put line.old 0 (calibratedLine calibrator scan.entry.now)) × Sound result.calibrator }
+    ensures value { (result ≡ calibrated_of calibrator scan.entry.now) × (product.new ≡ (step calibrator (record { scan = scan.entry.now; buffer = product.old })).outcome.buffer) × (line.new ≡ put line.old 0 (calibrated_line calibrator scan.entry.now)) × Sound result.calibrator }
 {
     let fed = calibrator.feed(scan, product);
     let answer = fed.answer;

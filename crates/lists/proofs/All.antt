@@ -11,15 +11,15 @@ module _ {A : Type 0} (Holds : A → Type 0) where
   unfolding All
   all_one holds = (holds, tt)
 
-  pub all-appended : (xs ys : List A) → All Holds xs → All Holds ys → All Holds (xs ++ ys)
+  pub all_appended : (xs ys : List A) → All Holds xs → All Holds ys → All Holds (xs ++ ys)
   unfolding All
-  all-appended [] ys first second = second
-  all-appended (x ∷ xs) ys first second = (first.0, all-appended xs ys first.1 second)
+  all_appended [] ys first second = second
+  all_appended (x ∷ xs) ys first second = (first.0, all_appended xs ys first.1 second)
 
-  pub all-of-any : ((x : A) → Holds x) → (xs : List A) → All Holds xs
+  pub all_of_any : ((x : A) → Holds x) → (xs : List A) → All Holds xs
   unfolding All
-  all-of-any any [] = tt
-  all-of-any any (x ∷ xs) = (any x, all-of-any any xs)
+  all_of_any any [] = tt
+  all_of_any any (x ∷ xs) = (any x, all_of_any any xs)
 
   pub all_weaker : {Also : A → Type 0} → ((x : A) → Holds x → Also x) → (xs : List A) → All Holds xs → All Also xs
   unfolding All

@@ -16,35 +16,35 @@ at_most_one true = omega arith
 at_most_one false = omega arith
 
 module _ (holds : ℕ → Bool) where
-  pub count-when-true : (n : ℕ) → holds n ≡ true → count holds (n + 1) ≡ count holds n + 1
+  pub count_when_true : (n : ℕ) → holds n ≡ true → count holds (n + 1) ≡ count holds n + 1
   unfolding count
-  count-when-true n one_more = rw (add-one n, one_more)
+  count_when_true n one_more = rw (add-one n, one_more)
 
-  pub count-when-false : (n : ℕ) → holds n ≡ false → count holds (n + 1) ≡ count holds n
+  pub count_when_false : (n : ℕ) → holds n ≡ false → count holds (n + 1) ≡ count holds n
   unfolding count
-  count-when-false n no_more = rw (add-one n, no_more) (add-zero (count holds n))
+  count_when_false n no_more = rw (add-one n, no_more) (add-zero (count holds n))
 
-  pub count-at-most : (n : ℕ) → count holds n ≤ n
+  pub count_at_most : (n : ℕ) → count holds n ≤ n
   unfolding count
-  count-at-most zero = omega arith
-  count-at-most (suc n) = omega (arith, count-at-most n, at_most_one (holds n))
+  count_at_most zero = omega arith
+  count_at_most (suc n) = omega (arith, count_at_most n, at_most_one (holds n))
 
-  pub count-rises : (a b : ℕ) → a ≤ b → count holds a ≤ count holds b
+  pub count_rises : (a b : ℕ) → a ≤ b → count holds a ≤ count holds b
   unfolding count
-  count-rises a b order = le_ind (λ (n : ℕ). count holds a ≤ count holds n) (le_refl _) (λ n above least. omega arith) b order
+  count_rises a b order = le_ind (λ (n : ℕ). count holds a ≤ count holds n) (le_refl _) (λ n above least. omega arith) b order
 
   -- more tests cannot take back what a count has reached
-  pub count-reached : (m a b : ℕ) → m ≤ count holds a → a ≤ b → ltb (count holds b) m ≡ false
-  count-reached m a b reached order = le-ltb (count holds b) m (omega (arith, count-rises a b order))
+  pub count_reached : (m a b : ℕ) → m ≤ count holds a → a ≤ b → ltb (count holds b) m ≡ false
+  count_reached m a b reached order = le-ltb (count holds b) m (omega (arith, count_rises a b order))
 
-  pub count-of-first : (m n : ℕ) → m ≤ n → ((i : ℕ) → i < m → holds i ≡ true) → ((i : ℕ) → m ≤ i → i < n → holds i ≡ false)
+  pub count_of_first : (m n : ℕ) → m ≤ n → ((i : ℕ) → i < m → holds i ≡ true) → ((i : ℕ) → m ≤ i → i < n → holds i ≡ false)
       → count holds n ≡ m
   unfolding count
-  count-of-first m zero within first others = omega arith
-  count-of-first m (suc n) within first others =
+  count_of_first m zero within first others = omega arith
+  count_of_first m (suc n) within first others =
       by_order (dec_le m n)
-      (λ less. count-of-first m n less first (λ i past below. others i past (omega arith)))
-      (λ all. count-of-first n n (le_refl n) (λ i below. first i (omega arith)) (λ i past below. absurd (omega arith)))
+      (λ less. count_of_first m n less first (λ i past below. others i past (omega arith)))
+      (λ all. count_of_first n n (le_refl n) (λ i below. first i (omega arith)) (λ i past below. absurd (omega arith)))
     where
       by_order : Dec (m ≤ n) → (m ≤ n → count holds n ≡ m) → (n < m → count holds n ≡ n) → count holds n + cond (holds n) 1 0 ≡ m
       by_order (yes less) before all = rw (others n less (le_refl (suc n)), before less) (add-zero m)

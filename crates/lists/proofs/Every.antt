@@ -7,22 +7,22 @@ use mathlib.Core.Path.{◌≡◌, refl, ap, ap₂, ◌∙◌}
 use mathlib.Core.List.{List, [], ◌∷◌}
 use mathlib.Core.Bool.{Bool, true, false, ◌&&◌, and-eq-true_iff}
 use lib.ListN.{get_or}
-use Rattle.lists.specs.Count.{every, allHold}
+use Rattle.lists.specs.Count.{every, all_hold}
 
 module _ (holds : ℕ → Bool) where
-  pub every-none : every holds 0 ≡ true
+  pub every_none : every holds 0 ≡ true
   unfolding every
-  every-none = refl
+  every_none = refl
 
   pub every_more : (n : ℕ) → every holds n ≡ true → every holds (n + 1) ≡ holds n
   unfolding every
   every_more n h = rw (add-one n, h)
 
   -- the loop may end at the first that does not hold
-  pub every-ended : (a b : ℕ) → holds a ≡ false → a < b → every holds b ≡ false
+  pub every_ended : (a b : ℕ) → holds a ≡ false → a < b → every holds b ≡ false
   unfolding every
-  every-ended a zero h l = absurd (omega arith)
-  every-ended a (suc b) h l = go (dec_lt a b) (λ k. every-ended a b h k)
+  every_ended a zero h l = absurd (omega arith)
+  every_ended a (suc b) h l = go (dec_lt a b) (λ k. every_ended a b h k)
     where
       and-false : (x : Bool) → (x && false) ≡ false
       and-false true = refl
@@ -34,10 +34,10 @@ module _ (holds : ℕ → Bool) where
           let e : b ≡ a = omega arith in
           ap (λ i. every holds b && holds i) e ∙ ap (λ x. every holds b && x) h ∙ and-false (every holds b)
 
-  pub each-of-every : (n i : ℕ) → every holds n ≡ true → i < n → holds i ≡ true
+  pub each_of_every : (n i : ℕ) → every holds n ≡ true → i < n → holds i ≡ true
   unfolding every
-  each-of-every zero i h l = absurd (omega arith)
-  each-of-every (suc n) i h l = let parts = (and-eq-true_iff (every holds n) (holds n)).0 h in go (dec_lt i n) (λ k. each-of-every n i parts.0 k) parts.1
+  each_of_every zero i h l = absurd (omega arith)
+  each_of_every (suc n) i h l = let parts = (and-eq-true_iff (every holds n) (holds n)).0 h in go (dec_lt i n) (λ k. each_of_every n i parts.0 k) parts.1
     where
       go : Dec (i < n) → (i < n → holds i ≡ true) → holds n ≡ true → holds i ≡ true
       go (yes k) earlier last = earlier k
@@ -46,23 +46,23 @@ module _ (holds : ℕ → Bool) where
           ap holds e ∙ last
 
   -- and all of its front
-  pub every-of-more : (m n : ℕ) → every holds n ≡ true → m ≤ n → every holds m ≡ true
+  pub every_of_more : (m n : ℕ) → every holds n ≡ true → m ≤ n → every holds m ≡ true
   unfolding every
-  every-of-more zero n h l = refl
-  every-of-more (suc m) n h l = (and-eq-true_iff (every holds m) (holds m)).1 (every-of-more m n h (omega arith), each-of-every n m h (omega arith))
+  every_of_more zero n h l = refl
+  every_of_more (suc m) n h l = (and-eq-true_iff (every holds m) (holds m)).1 (every_of_more m n h (omega arith), each_of_every n m h (omega arith))
 
-pub every-when-each : (holds : ℕ → Bool) (n : ℕ) → ((i : ℕ) → i < n → holds i ≡ true) → every holds n ≡ true
+pub every_when_each : (holds : ℕ → Bool) (n : ℕ) → ((i : ℕ) → i < n → holds i ≡ true) → every holds n ≡ true
 unfolding every
-every-when-each holds zero each = refl
-every-when-each holds (suc n) each = ap₂ ◌&&◌ (every-when-each holds n (λ i below. each i (omega arith))) (each n (omega arith))
+every_when_each holds zero each = refl
+every_when_each holds (suc n) each = ap₂ ◌&&◌ (every_when_each holds n (λ i below. each i (omega arith))) (each n (omega arith))
 
-pub every-same : (holds also : ℕ → Bool) (n : ℕ) → ((i : ℕ) → i < n → holds i ≡ also i) → every holds n ≡ every also n
+pub every_same : (holds also : ℕ → Bool) (n : ℕ) → ((i : ℕ) → i < n → holds i ≡ also i) → every holds n ≡ every also n
 unfolding every
-every-same holds also zero e = refl
-every-same holds also (suc n) e = ap₂ ◌&&◌ (every-same holds also n (λ i h. e i (omega arith))) (e n (omega arith))
+every_same holds also zero e = refl
+every_same holds also (suc n) e = ap₂ ◌&&◌ (every_same holds also n (λ i h. e i (omega arith))) (e n (omega arith))
 
 -- all tests of a list hold, so each of them does
-pub each-of-all : (tests : List Bool) → allHold tests ≡ true → (i : ℕ) → get_or tests i true ≡ true
-each-of-all [] h i = refl
-each-of-all (test ∷ more) h zero = ((and-eq-true_iff test (allHold more)).0 h).0
-each-of-all (test ∷ more) h (suc i) = each-of-all more ((and-eq-true_iff test (allHold more)).0 h).1 i
+pub each_of_all : (tests : List Bool) → all_hold tests ≡ true → (i : ℕ) → get_or tests i true ≡ true
+each_of_all [] h i = refl
+each_of_all (test ∷ more) h zero = ((and-eq-true_iff test (all_hold more)).0 h).0
+each_of_all (test ∷ more) h (suc i) = each_of_all more ((and-eq-true_iff test (all_hold more)).0 h).1 i

@@ -7,9 +7,9 @@ use native.Mathlib.Omega.{arith}
 use mathlib.Core.Path.{◌≡◌, refl, ap₂}
 use Rattle.lists.specs.Sum.{sum}
 
-pub sum-none : (f : ℕ → ℕ) → sum f 0 ≡ 0
+pub sum_none : (f : ℕ → ℕ) → sum f 0 ≡ 0
 unfolding sum
-sum-none f = refl
+sum_none f = refl
 
 pub sum_more : (f : ℕ → ℕ) (n : ℕ) → sum f (n + 1) ≡ sum f n + f n
 unfolding sum
@@ -20,17 +20,17 @@ unfolding sum
 sum_same f g zero e = refl
 sum_same f g (suc n) e = ap₂ ◌+◌ (sum_same f g n (λ i h. e i (omega arith))) (e n (omega arith))
 
-pub sum-at-most : (f g : ℕ → ℕ) (n : ℕ) → ((i : ℕ) → i < n → f i ≤ g i) → sum f n ≤ sum g n
+pub sum_at_most : (f g : ℕ → ℕ) (n : ℕ) → ((i : ℕ) → i < n → f i ≤ g i) → sum f n ≤ sum g n
 unfolding sum
-sum-at-most f g zero e = omega arith
-sum-at-most f g (suc n) e = omega (arith, sum-at-most f g n (λ i h. e i (omega arith)), e n (omega arith))
+sum_at_most f g zero e = omega arith
+sum_at_most f g (suc n) e = omega (arith, sum_at_most f g n (λ i h. e i (omega arith)), e n (omega arith))
 
 -- every term at most m
-pub sum-bounded : (f : ℕ → ℕ) (m n : ℕ) → ((i : ℕ) → i < n → f i ≤ m) → sum f n ≤ n * m
+pub sum_bounded : (f : ℕ → ℕ) (m n : ℕ) → ((i : ℕ) → i < n → f i ≤ m) → sum f n ≤ n * m
 unfolding sum
-sum-bounded f m zero e = omega arith
-sum-bounded f m (suc n) e = omega (arith, sum-bounded f m n (λ i h. e i (omega arith)), e n (omega arith))
+sum_bounded f m zero e = omega arith
+sum_bounded f m (suc n) e = omega (arith, sum_bounded f m n (λ i h. e i (omega arith)), e n (omega arith))
 
-pub sum-rises : (f : ℕ → ℕ) (a b : ℕ) → a ≤ b → sum f a ≤ sum f b
+pub sum_rises : (f : ℕ → ℕ) (a b : ℕ) → a ≤ b → sum f a ≤ sum f b
 unfolding sum
-sum-rises f a b h = le_ind (λ (n : ℕ). sum f a ≤ sum f n) (le_refl _) (λ n above least. omega arith) b h
+sum_rises f a b h = le_ind (λ (n : ℕ). sum f a ≤ sum f n) (le_refl _) (λ n above least. omega arith) b h

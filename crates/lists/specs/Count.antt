@@ -12,6 +12,6 @@ every holds zero = true
 every holds (suc n) = every holds n && holds n
 
 -- whether all tests of a list hold
-abbrev pub allHold : List Bool → Bool
-allHold [] = true
-allHold (test ∷ more) = test && allHold more
+abbrev pub all_hold : List Bool → Bool
+all_hold [] = true
+all_hold (test ∷ more) = test && all_hold more

@@ -11,9 +11,9 @@ infix 10 ◌when◌
 pub data Test : Type 0 where
   ◌when◌ : ℕ → Bool → Test
 
-abbrev pub firstThatApplies : List Test → Verdict
-firstThatApplies [] = passes
-firstThatApplies ((number when applies) ∷ more) = cond applies (fails number) (firstThatApplies more)
+abbrev pub first_that_applies : List Test → Verdict
+first_that_applies [] = passes
+first_that_applies ((number when applies) ∷ more) = cond applies (fails number) (first_that_applies more)
 
 -- the number of a verdict; 0, which is no refusal of document 01, where none applies
 abbrev pub number_of : Verdict → ℕ

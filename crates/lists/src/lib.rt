@@ -1,11 +1,11 @@
 // Definitions and laws on lists, and on tests that run in order, that several crates use; the test of a whole list, and a copy of numbers.
 ghost use Rattle.std.specs.Prelude.{◌≡◌, ◌+◌, ◌≤◌, length};
 ghost use Rattle.lists.specs.Build.{put};
-ghost use Rattle.lists.specs.Count.{allHold};
+ghost use Rattle.lists.specs.Count.{all_hold};
 
 // Whether all tests hold.
 pub fn all_hold(tests: &[bool]) -> bool
-    ensures { result ≡ allHold tests.now }
+    ensures { result ≡ all_hold tests.now }
 {
     for k in 0..tests.len() {
         if !tests[k] {

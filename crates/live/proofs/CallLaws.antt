@@ -7,106 +7,106 @@ use mathlib.Core.Bool.{Bool, true, false}
 use lib.ListN.{length}
 use borrow.Author.Tests.{lt-ltb, le-ltb}
 use Rattle.lists.specs.Tests.{Verdict, passes, fails, number_of, and_then}
-use Rattle.bias.specs.Opening.{bothOpening}
+use Rattle.bias.specs.Opening.{both_opening}
 use Rattle.calibrator.specs.declared.Calibrator.{Calibrator}
 use Rattle.calibrator.specs.declared.Answer.{Answer}
 use Rattle.calibrator.specs.declared.Answer.TheVariants.{Accepted, Refused}
 use Rattle.calibrator.specs.declared.Refusal.{Refusal}
 use Rattle.calibrator.specs.declared.Refusal.TheVariants.{LengthWrong, FieldWrong, NumberNotAbove, BufferShort}
-use Rattle.calibrator.specs.Refusals.{Reply, refusalNumber, replyOf, replyNumber}
+use Rattle.calibrator.specs.Refusals.{Reply, refusal_number, reply_of, reply_number}
 use Rattle.calibrator.specs.Feeding.{Feed, Stepped, step, fresh_of, Leaves}
-use Rattle.lookup.specs.Lookup.{Found, refusedWith, countBehind}
-use Rattle.state.specs.State.{saved, stateSize, lastIn, calibratorIn, isState}
-use Rattle.live.specs.Calls.{noState, room_for, freshVerdict, freshBy, stateBy, leftBy, leftIf, fedState, CallLeaves, foundWhen, foundIn, foundNumber, countOr}
+use Rattle.lookup.specs.Lookup.{Found, refusedWith, count_behind}
+use Rattle.state.specs.State.{saved, state_size, last_in, calibrator_in, is_state}
+use Rattle.live.specs.Calls.{no_state, room_for, fresh_verdict, fresh_by, state_by, left_by, left_if, fed_state, CallLeaves, found_when, found_in, found_number, count_or}
 
 -- ---- a fresh state
 
 pub record FreshLeaves (table bias state : List ℕ) (answer : ℕ) (left : List ℕ) : Type 0 where
-  pub answer-is : answer ≡ number_of (freshVerdict table bias state)
-  pub state-is : left ≡ freshBy (freshVerdict table bias state) table bias state
+  pub answer_is : answer ≡ number_of (fresh_verdict table bias state)
+  pub state_is : left ≡ fresh_by (fresh_verdict table bias state) table bias state
 
 module _ (table bias state : List ℕ) where
-  fresh-by : {verdict : Verdict} {answer : ℕ} {left : List ℕ} → freshVerdict table bias state ≡ verdict → answer ≡ number_of verdict
-      → left ≡ freshBy verdict table bias state → FreshLeaves table bias state answer left
-  fresh-by known answers leaves =
-      record { answer-is = answers ∙ sym (ap number_of known); state-is = leaves ∙ sym (ap (λ (v : Verdict). freshBy v table bias state) known) }
+  fresh_by_lem : {verdict : Verdict} {answer : ℕ} {left : List ℕ} → fresh_verdict table bias state ≡ verdict → answer ≡ number_of verdict
+      → left ≡ fresh_by verdict table bias state → FreshLeaves table bias state answer left
+  fresh_by_lem known answers leaves =
+      record { answer_is = answers ∙ sym (ap number_of known); state_is = leaves ∙ sym (ap (λ (v : Verdict). fresh_by v table bias state) known) }
 
-  pub refused-by-opening : {n : ℕ} → n ≡ number_of (bothOpening table bias) → (n ≡ 0 → ⊥) → FreshLeaves table bias state n state
-  refused-by-opening = by-verdict (bothOpening table bias) refl
+  pub refused_by_opening : {n : ℕ} → n ≡ number_of (both_opening table bias) → (n ≡ 0 → ⊥) → FreshLeaves table bias state n state
+  refused_by_opening = by-verdict (both_opening table bias) refl
     where
-      by-verdict : (v : Verdict) → bothOpening table bias ≡ v → {n : ℕ} → n ≡ number_of v → (n ≡ 0 → ⊥) → FreshLeaves table bias state n state
+      by-verdict : (v : Verdict) → both_opening table bias ≡ v → {n : ℕ} → n ≡ number_of v → (n ≡ 0 → ⊥) → FreshLeaves table bias state n state
       by-verdict passes known is some = absurd (some is)
-      by-verdict (fails k) known is some = fresh-by (ap (λ (v : Verdict). and_then v (room_for state)) known) is refl
+      by-verdict (fails k) known is some = fresh_by_lem (ap (λ (v : Verdict). and_then v (room_for state)) known) is refl
 
-  module _ (passed : bothOpening table bias ≡ passes) where
-    pub no_room : length state < stateSize → FreshLeaves table bias state noState state
-    no_room short = fresh-by {verdict = fails noState} (ap (λ (v : Verdict). and_then v (room_for state)) passed ∙ rw (lt-ltb (length state) stateSize short)) refl refl
+  module _ (passed : both_opening table bias ≡ passes) where
+    pub no_room : length state < state_size → FreshLeaves table bias state no_state state
+    no_room short = fresh_by_lem {verdict = fails no_state} (ap (λ (v : Verdict). and_then v (room_for state)) passed ∙ rw (lt-ltb (length state) state_size short)) refl refl
 
-    module _ (room : stateSize ≤ length state) where
-      pub fresh-passes : freshVerdict table bias state ≡ passes
-      fresh-passes = ap (λ (v : Verdict). and_then v (room_for state)) passed ∙ rw (le-ltb (length state) stateSize room)
+    module _ (room : state_size ≤ length state) where
+      pub fresh_passes : fresh_verdict table bias state ≡ passes
+      fresh_passes = ap (λ (v : Verdict). and_then v (room_for state)) passed ∙ rw (le-ltb (length state) state_size room)
 
-      pub fresh-saved : {left : List ℕ} → left ≡ saved state (fresh_of (record { bytes = table }) (record { bytes = bias })) → FreshLeaves table bias state 0 left
-      fresh-saved is = fresh-by {verdict = passes} fresh-passes refl is
+      pub fresh_saved : {left : List ℕ} → left ≡ saved state (fresh_of (record { bytes = table }) (record { bytes = bias })) → FreshLeaves table bias state 0 left
+      fresh_saved is = fresh_by_lem {verdict = passes} fresh_passes refl is
 
 -- ---- a call of a state, and of bytes that are none
 
 module _ (state : List ℕ) where
   module _ (feed : Feed) where
-    pub no-state-leaves : isState state ≡ false → CallLeaves (fedState state feed) noState state feed.buffer
-    unfolding fedState
-    no-state-leaves wrong =
-        subst (λ (b : Bool). CallLeaves (leftIf b state feed) noState state feed.buffer) (sym wrong) (record { answer-is = refl; state-is = refl; buffer-is = refl })
+    pub no_state_leaves : is_state state ≡ false → CallLeaves (fed_state state feed) no_state state feed.buffer
+    unfolding fed_state
+    no_state_leaves wrong =
+        subst (λ (b : Bool). CallLeaves (left_if b state feed) no_state state feed.buffer) (sym wrong) (record { answer_is = refl; state_is = refl; buffer-is = refl })
 
-    pub state-leaves : isState state ≡ true → {n : ℕ} {left buffer : List ℕ} → CallLeaves (leftBy state (step (calibratorIn state) feed)) n left buffer
-        → CallLeaves (fedState state feed) n left buffer
-    unfolding fedState
-    state-leaves right {n} {left} {buffer} leaves = subst (λ (b : Bool). CallLeaves (leftIf b state feed) n left buffer) (sym right) leaves
+    pub state_leaves : is_state state ≡ true → {n : ℕ} {left buffer : List ℕ} → CallLeaves (left_by state (step (calibrator_in state) feed)) n left buffer
+        → CallLeaves (fed_state state feed) n left buffer
+    unfolding fed_state
+    state_leaves right {n} {left} {buffer} leaves = subst (λ (b : Bool). CallLeaves (left_if b state feed) n left buffer) (sym right) leaves
 
   module _ (channel wanted : ℕ) where
-    pub no-state-found : isState state ≡ false → foundIn state channel wanted ≡ refusedWith noState
-    unfolding foundIn
-    no-state-found wrong = ap (λ (b : Bool). foundWhen b state channel wanted) wrong
+    pub no_state_found : is_state state ≡ false → found_in state channel wanted ≡ refusedWith no_state
+    unfolding found_in
+    no_state_found wrong = ap (λ (b : Bool). found_when b state channel wanted) wrong
 
-    pub state-found : isState state ≡ true → foundIn state channel wanted ≡ countBehind (lastIn state) channel wanted
-    unfolding foundIn
-    state-found right = ap (λ (b : Bool). foundWhen b state channel wanted) right
+    pub state_found : is_state state ≡ true → found_in state channel wanted ≡ count_behind (last_in state) channel wanted
+    unfolding found_in
+    state_found right = ap (λ (b : Bool). found_when b state channel wanted) right
 
 -- what is answered and left, where the answer is known
-pub found-leaves : {known told : Found} → known ≡ told → (before : ℕ) → (foundNumber known ≡ foundNumber told) × (countOr known before ≡ countOr told before)
-found-leaves is before = (ap foundNumber is, ap (λ (f : Found). countOr f before) is)
+pub found_leaves : {known told : Found} → known ≡ told → (before : ℕ) → (found_number known ≡ found_number told) × (count_or known before ≡ count_or told before)
+found_leaves is before = (ap found_number is, ap (λ (f : Found). count_or f before) is)
 
 -- ---- a feed of the calibrator that was read
 
 module _ {stepped : Stepped} {calibrator : Calibrator} {answer : Answer} {buffer : List ℕ} (fed : Leaves stepped calibrator answer buffer) (state : List ℕ) where
-  stays : (answer : Answer) → (replyNumber (replyOf answer) ≡ 0 → ⊥) → (c : Calibrator) → state ≡ stateBy (replyOf answer) state c
+  stays : (answer : Answer) → (reply_number (reply_of answer) ≡ 0 → ⊥) → (c : Calibrator) → state ≡ state_by (reply_of answer) state c
   stays (Accepted n) some c = absurd (some refl)
   stays (Refused refusal) some c = refl
 
-  no-refusal-is-zero : (refusal : Refusal) → refusalNumber refusal ≡ 0 → ⊥
-  no-refusal-is-zero LengthWrong is = omega (arith, is)
-  no-refusal-is-zero FieldWrong is = omega (arith, is)
-  no-refusal-is-zero NumberNotAbove is = omega (arith, is)
-  no-refusal-is-zero BufferShort is = omega (arith, is)
+  no_refusal_is_zero : (refusal : Refusal) → refusal_number refusal ≡ 0 → ⊥
+  no_refusal_is_zero LengthWrong is = omega (arith, is)
+  no_refusal_is_zero FieldWrong is = omega (arith, is)
+  no_refusal_is_zero NumberNotAbove is = omega (arith, is)
+  no_refusal_is_zero BufferShort is = omega (arith, is)
 
-  moves : (answer : Answer) → replyNumber (replyOf answer) ≡ 0 → (c : Calibrator) → saved state c ≡ stateBy (replyOf answer) state c
+  moves : (answer : Answer) → reply_number (reply_of answer) ≡ 0 → (c : Calibrator) → saved state c ≡ state_by (reply_of answer) state c
   moves (Accepted n) none c = refl
-  moves (Refused refusal) none c = absurd (no-refusal-is-zero refusal none)
+  moves (Refused refusal) none c = absurd (no_refusal_is_zero refusal none)
 
-  by-reply : stateBy (replyOf answer) state stepped.calibrator ≡ (leftBy state stepped).state
-  by-reply = ap (λ (reply : Reply). stateBy reply state stepped.calibrator) fed.reply-is
+  by_reply : state_by (reply_of answer) state stepped.calibrator ≡ (left_by state stepped).state
+  by_reply = ap (λ (reply : Reply). state_by reply state stepped.calibrator) fed.reply_is
 
-  module _ {n : ℕ} (numbered : n ≡ replyNumber (replyOf answer)) where
-    pub refused-leaves : (n ≡ 0 → ⊥) → CallLeaves (leftBy state stepped) n state buffer
-    refused-leaves some = record {
-      answer-is = numbered ∙ ap replyNumber fed.reply-is;
-      state-is = stays answer (λ none. some (numbered ∙ none)) stepped.calibrator ∙ by-reply;
+  module _ {n : ℕ} (numbered : n ≡ reply_number (reply_of answer)) where
+    pub refused_leaves : (n ≡ 0 → ⊥) → CallLeaves (left_by state stepped) n state buffer
+    refused_leaves some = record {
+      answer_is = numbered ∙ ap reply_number fed.reply_is;
+      state_is = stays answer (λ none. some (numbered ∙ none)) stepped.calibrator ∙ by_reply;
       buffer-is = fed.buffer-is;
     }
 
-    pub accepted-leaves : n ≡ 0 → {left : List ℕ} → left ≡ saved state calibrator → CallLeaves (leftBy state stepped) 0 left buffer
-    accepted-leaves none is = record {
-      answer-is = sym none ∙ numbered ∙ ap replyNumber fed.reply-is;
-      state-is = is ∙ ap (saved state) fed.calibrator-is ∙ moves answer (sym numbered ∙ none) stepped.calibrator ∙ by-reply;
+    pub accepted_leaves : n ≡ 0 → {left : List ℕ} → left ≡ saved state calibrator → CallLeaves (left_by state stepped) 0 left buffer
+    accepted_leaves none is = record {
+      answer_is = sym none ∙ numbered ∙ ap reply_number fed.reply_is;
+      state_is = is ∙ ap (saved state) fed.calibrator_is ∙ moves answer (sym numbered ∙ none) stepped.calibrator ∙ by_reply;
       buffer-is = fed.buffer-is;
     }

@@ -6,9 +6,9 @@ ghost use Rattle.bias.specs.Opening.{AcceptedBias};
 ghost use Rattle.window.specs.Ranges.{WindowRange};
 ghost use Rattle.lastscan.specs.Ranges.{LastRange};
 ghost use Rattle.calibrator.specs.Feeding.{step};
-ghost use Rattle.calibrator.specs.Steps.{calibratorWith};
-ghost use Rattle.state.specs.State.{stateSize};
-ghost use Rattle.live.specs.Calls.{freshVerdict, freshBy, leftBy, fedState, CallLeaves, foundIn, foundNumber, countOr};
+ghost use Rattle.calibrator.specs.Steps.{calibrator_with};
+ghost use Rattle.state.specs.State.{state_size};
+ghost use Rattle.live.specs.Calls.{fresh_verdict, fresh_by, left_by, fed_state, CallLeaves, found_in, found_number, count_or};
 
 use lastscan::LastScan;
 use lookup::Behind;
@@ -24,7 +24,7 @@ const NO_COUNT: u8 = 253;
 // A fresh state under this table and this bias file: 0, the number of the table's refusal, then of the bias file's, or 254 where the state is
 // too short.
 pub fn fresh(table: &[u8], bias: &[u8], state: &mut [u8]) -> u8
-    ensures { (result ≡ number_of (freshVerdict table.now bias.now state.old)) × (state.new ≡ freshBy (freshVerdict table.now bias.now state.old) table.now bias.now state.old) }
+    ensures { (result ≡ number_of (fresh_verdict table.now bias.now state.old)) × (state.new ≡ fresh_by (fresh_verdict table.now bias.now state.old) table.now bias.now state.old) }
 {
     let answer = table::open(table).answer;
     let number = table::refusal_number(answer);
@@ -59,8 +59,8 @@ fn feed_read(
     scan: &[u8],
     buffer: &mut [u8],
 ) -> u8
-    requires { AcceptedTable table.now × AcceptedBias bias.now × WindowRange window × LastRange last × (stateSize ≤ length state.old) }
-    ensures { CallLeaves (leftBy state.old (step (calibratorWith table.now bias.now window last) (record { scan = scan.entry.now; buffer = buffer.old }))) result state.new buffer.new }
+    requires { AcceptedTable table.now × AcceptedBias bias.now × WindowRange window × LastRange last × (state_size ≤ length state.old) }
+    ensures { CallLeaves (left_by state.old (step (calibrator_with table.now bias.now window last) (record { scan = scan.entry.now; buffer = buffer.old }))) result state.new buffer.new }
 {
     let pairs = bias::pairs_of(bias);
     let fed = calibrator::feed_with(table, bias, &pairs, window, last, scan, buffer);
@@ -75,7 +75,7 @@ fn feed_read(
 
 // Feeds a scan to the calibrator of a state: 254 where the bytes are no state, 4 to 7, or 0.
 pub fn feed(state: &mut [u8], scan: &[u8], buffer: &mut [u8]) -> u8
-    ensures { CallLeaves (fedState state.old (record { scan = scan.entry.now; buffer = buffer.old })) result state.new buffer.new }
+    ensures { CallLeaves (fed_state state.old (record { scan = scan.entry.now; buffer = buffer.old })) result state.new buffer.new }
 {
     if !state::is_state(state) {
         return NO_STATE;
@@ -90,7 +90,7 @@ pub fn feed(state: &mut [u8], scan: &[u8], buffer: &mut [u8]) -> u8
 // The count behind a temperature, by the calibrator of a state: 254 where the bytes are no state, 11, 12, 253 where no count fits, or 0 and
 // the count.
 pub fn count_behind(state: &[u8], channel: u32, wanted: u32, count: &mut u16) -> u8
-    ensures { (result ≡ foundNumber (foundIn state.now channel wanted)) × (count.new ≡ countOr (foundIn state.now channel wanted) count.old) }
+    ensures { (result ≡ found_number (found_in state.now channel wanted)) × (count.new ≡ count_or (found_in state.now channel wanted) count.old) }
 {
     if !state::is_state(state) {
         return NO_STATE;

@@ -1,13 +1,13 @@
 -- What the private functions give. A reader of the promises can leave this out.
 use Rattle.std.specs.Prelude.{ℕ, zero, suc, ◌*◌}
 use Rattle.scene.specs.declared.Constants.{Constants}
-use Rattle.scene.specs.BeforeBias.{beforeBias}
+use Rattle.scene.specs.BeforeBias.{before_bias}
 use Rattle.lists.specs.Tests.{passes}
-use Rattle.lookup.specs.Lookup.{Found, foundIf}
+use Rattle.lookup.specs.Lookup.{Found, found_if}
 
 -- the count behind a wanted T in a channel with flag 0
-abbrev pub countWith : Constants → (wanted : ℕ) → Found
-countWith k wanted = foundIf passes (beforeBias k) wanted
+abbrev pub count_with : Constants → (wanted : ℕ) → Found
+count_with k wanted = found_if passes (before_bias k) wanted
 
 -- 2^n
 unfoldable pub power : ℕ → ℕ

@@ -2,10 +2,10 @@
 ghost use Rattle.std.specs.Prelude.{◌≡◌, ℕ, ◌≤◌, true};
 ghost use Rattle.scene.specs.Ranges.{ConstantsRange};
 ghost use Rattle.scene.specs.Steps.{scale_of};
-ghost use Rattle.scene.specs.BeforeBias.{beforeBias};
+ghost use Rattle.scene.specs.BeforeBias.{before_bias};
 ghost use Rattle.lastscan.specs.Ranges.{LastRange};
-ghost use Rattle.lookup.specs.Lookup.{foundBy, deliveredWith, countBehind};
-ghost use Rattle.lookup.specs.Steps.{countWith};
+ghost use Rattle.lookup.specs.Lookup.{found_by, delivered_with, count_behind};
+ghost use Rattle.lookup.specs.Steps.{count_with};
 
 use instrument::CHANNELS;
 use lastscan::LastScan;
@@ -26,7 +26,7 @@ const HALVINGS: usize = 16;
 // The only count that can fit: T rises with the count, so that one scene tells in which half of the counts it is.
 fn only_candidate(k: Constants, scale: Scale, wanted: u32) -> u16
     requires { ConstantsRange k × (scale ≡ scale_of k) }
-    ensures { (count : ℕ) → count ≤ 65535 → deliveredWith wanted (beforeBias k count) ≡ true → count ≡ result }
+    ensures { (count : ℕ) → count ≤ 65535 → delivered_with wanted (before_bias k count) ≡ true → count ≡ result }
 {
     let mut first = 0u16;
     let mut half = 32_768u16;
@@ -42,7 +42,7 @@ fn only_candidate(k: Constants, scale: Scale, wanted: u32) -> u16
 // The count behind a wanted T in a channel with flag 0, by 17 scenes.
 fn count_with(k: Constants, wanted: u32) -> Behind
     requires { ConstantsRange k }
-    ensures { foundBy result ≡ countWith k wanted }
+    ensures { found_by result ≡ count_with k wanted }
 {
     let scale = scene::scale_of(k);
     let count = only_candidate(k, scale, wanted);
@@ -59,7 +59,7 @@ fn count_with(k: Constants, wanted: u32) -> Behind
 // By what is kept of the last accepted scan. Channels are counted from 1.
 pub fn count_behind(last: LastScan, channel: u32, wanted: u32) -> Behind
     requires { LastRange last }
-    ensures { foundBy result ≡ countBehind last channel wanted }
+    ensures { found_by result ≡ count_behind last channel wanted }
 {
     if !table::from_to(1, CHANNELS as u32, channel) {
         return Behind::ChannelOutside;

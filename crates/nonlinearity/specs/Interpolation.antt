@@ -7,19 +7,19 @@ use Rattle.table.specs.declared.ShelfPair.{ShelfPair}
 use Rattle.table.specs.Settings.{pairs}
 
 -- between two pairs: the straight line's value at this shelf temperature, as one fraction
-abbrev pub onLine : (low high : ShelfPair) → ℤ → Fraction
-onLine low high shelf = (low.tnl *ℤ (high.shelf -ℤ shelf) +ℤ high.tnl *ℤ (shelf -ℤ low.shelf)) /ᶠ (high.shelf -ℤ low.shelf)
+abbrev pub on_line : (low high : ShelfPair) → ℤ → Fraction
+on_line low high shelf = (low.tnl *ℤ (high.shelf -ℤ shelf) +ℤ high.tnl *ℤ (shelf -ℤ low.shelf)) /ᶠ (high.shelf -ℤ low.shelf)
 
 -- above pair j, which so many more follow: on the line up to the next one; beyond the last the end value is kept
-unfoldable pub abovePair : (ℕ → ShelfPair) → (j more : ℕ) → ℤ → Fraction
-abovePair pair j zero shelf = whole (pair j).tnl
-abovePair pair j (suc more) shelf =
-    cond (le_z shelf (pair (j + 1)).shelf) (onLine (pair j) (pair (j + 1)) shelf) (abovePair pair (j + 1) more shelf)
+unfoldable pub above_pair : (ℕ → ShelfPair) → (j more : ℕ) → ℤ → Fraction
+above_pair pair j zero shelf = whole (pair j).tnl
+above_pair pair j (suc more) shelf =
+    cond (le_z shelf (pair (j + 1)).shelf) (on_line (pair j) (pair (j + 1)) shelf) (above_pair pair (j + 1) more shelf)
 
 -- the unrounded TNL; up to the first pair the end value is kept
-unfoldable pub unroundedTnl : (ℕ → ShelfPair) → ℤ → Fraction
-unroundedTnl pair shelf = cond (le_z shelf (pair 0).shelf) (whole (pair 0).tnl) (abovePair pair 0 (pairs - 1) shelf)
+unfoldable pub unrounded_tnl : (ℕ → ShelfPair) → ℤ → Fraction
+unrounded_tnl pair shelf = cond (le_z shelf (pair 0).shelf) (whole (pair 0).tnl) (above_pair pair 0 (pairs - 1) shelf)
 
 -- rounded by r, once
-unfoldable pub tnlOf : (ℕ → ShelfPair) → ℤ → ℤ
-tnlOf pair shelf = let value = unroundedTnl pair shelf in r value.num value.den
+unfoldable pub tnl_of : (ℕ → ShelfPair) → ℤ → ℤ
+tnl_of pair shelf = let value = unrounded_tnl pair shelf in r value.num value.den

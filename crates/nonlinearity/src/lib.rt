@@ -2,9 +2,9 @@
 ghost use Rattle.std.specs.Prelude.{◌≡◌, ◌<◌, ◌≤ℤ◌, ◌<ℤ◌};
 ghost use Rattle.instrument.specs.Instrument.{channels};
 ghost use Rattle.integers.specs.Rounding.{r};
-ghost use Rattle.table.specs.Settings.{settingsOf};
+ghost use Rattle.table.specs.Settings.{settings_of};
 ghost use Rattle.table.specs.Opening.{ages, AcceptedTable};
-ghost use Rattle.nonlinearity.specs.Interpolation.{onLine, tnlOf};
+ghost use Rattle.nonlinearity.specs.Interpolation.{on_line, tnl_of};
 ghost use Rattle.nonlinearity.specs.Steps.{ShelfPairRange};
 
 use table::{SHELF_PAIRS, ShelfPair};
@@ -12,7 +12,7 @@ use table::{SHELF_PAIRS, ShelfPair};
 // Between two pairs: the straight line's value, one fraction, rounded once.
 fn on_line(low: ShelfPair, high: ShelfPair, shelf: i64) -> i64
     requires { ShelfPairRange low × ShelfPairRange high × (low.shelf <ℤ shelf) × (shelf ≤ℤ high.shelf) }
-    ensures { result ≡ r (onLine low high shelf).num (onLine low high shelf).den }
+    ensures { result ≡ r (on_line low high shelf).num (on_line low high shelf).den }
 {
     let weighted = low.tnl * (high.shelf - shelf) + high.tnl * (shelf - low.shelf);
     integers::round(weighted, high.shelf - low.shelf)
@@ -21,7 +21,7 @@ fn on_line(low: ShelfPair, high: ShelfPair, shelf: i64) -> i64
 // TNL of channel c, counted from 0, at this shelf temperature. Up to the first pair and above the last it is the end value.
 pub fn tnl_of(table: &[u8], c: usize, shelf: i64) -> i64
     requires { AcceptedTable table.now × (c < channels) }
-    ensures { result ≡ tnlOf ((settingsOf ages table.now).channel c).pair shelf }
+    ensures { result ≡ tnl_of ((settings_of ages table.now).channel c).pair shelf }
 {
     let first = table::pair_of(table, c, 0);
     if shelf <= first.shelf {

@@ -8,20 +8,20 @@ use mathlib.Core.List.{List, [], ◌∷◌, ◌++◌, append_assoc, append-nil}
 use mathlib.Core.Bool.{true}
 use lib.ListN.{length, get_or}
 use lib.Ieee.{binary32, to_bits}
-use Rattle.lists.proofs.Stands.{StandsAt, stands-at-front, stands-behind, stands-inside, cell-stands}
+use Rattle.lists.proofs.Stands.{StandsAt, stands_at_front, stands_behind, stands_inside, cell_stands}
 use Rattle.lists.proofs.Tabulate.{get_d_tabulate}
-use Rattle.fields.specs.Numbers.{u16At, u32_at, u16Bytes, u32Bytes}
-use Rattle.fields.specs.Fields.{layoutIsRight, fieldBytes, field_at, valueStart, laidOut}
-use Rattle.fields.proofs.FieldBytes.{u16-that-stands, u32-that-stands, Sized, length-laid-out, value-stands, laid-out-is-right}
+use Rattle.fields.specs.Numbers.{u16_at, u32_at, u16_bytes, u32_bytes}
+use Rattle.fields.specs.Fields.{layout_is_right, field_bytes, field_at, value_start, laid_out}
+use Rattle.fields.proofs.FieldBytes.{u16_that_stands, u32_that_stands, Sized, length_laid_out, value_stands, laid_out_is_right}
 use Rattle.instrument.specs.Instrument.{channels, positions}
-use Rattle.record.specs.Record.{earthPart}
+use Rattle.record.specs.Record.{earth_part}
 use Rattle.scene.specs.Scene.{bits}
 use Rattle.scene.specs.declared.Channel.{Channel}
 use Rattle.product.specs.declared.Summary.{Summary}
-use Rattle.product.specs.Scenes.{Deliver, scene_at, noChannel}
-use Rattle.product.specs.Summary.{noneDelivered, summaryOf}
-use Rattle.product.specs.Product.{productLayout, productSize, stretchSize, summarySize, channelScenes, sceneBytes, summaryBytes, summaries, summariesBytes, flagBytes, productOf}
-use Rattle.product.proofs.Lengths.{length-channel-scenes, length-scene-bytes, length-summary-bytes, length-summaries-bytes, length-flag-bytes}
+use Rattle.product.specs.Scenes.{Deliver, scene_at, no_channel}
+use Rattle.product.specs.Summary.{none_delivered, summary_of}
+use Rattle.product.specs.Product.{product_layout, product_size, stretch_size, summary_size, channel_scenes, scene_bytes, summary_bytes, summaries, summaries_bytes, flag_bytes, product_of}
+use Rattle.product.proofs.Lengths.{length_channel_scenes, length_scene_bytes, length_summary_bytes, length_summaries_bytes, length_flag_bytes}
 
 -- ---- the four fields of a product
 
@@ -30,111 +30,111 @@ regroup a b c d rest = simp append_assoc
 
 module _ (deliver : ℕ → Deliver) (number : ℕ) (states : List Channel) (earth : List ℕ) where
   abbrev values : List (List ℕ)
-  values = u32Bytes number ∷ flagBytes states ∷ sceneBytes deliver states earth ∷ summariesBytes (summaries deliver states earth) ∷ []
+  values = u32_bytes number ∷ flag_bytes states ∷ scene_bytes deliver states earth ∷ summaries_bytes (summaries deliver states earth) ∷ []
 
-  values-are-sized : Sized productLayout values
-  values-are-sized =
-      (refl, (length-flag-bytes states, (length-scene-bytes deliver states earth, (length-summaries-bytes (summaries deliver states earth), tt))))
+  values_are_sized : Sized product_layout values
+  values_are_sized =
+      (refl, (length_flag_bytes states, (length_scene_bytes deliver states earth, (length_summaries_bytes (summaries deliver states earth), tt))))
 
-  product-is-laid-out : (rest : List ℕ) → productOf deliver number states earth ++ rest ≡ laidOut productLayout values rest
-  unfolding productOf
-  product-is-laid-out rest =
-      regroup (fieldBytes (field_at productLayout 0) (u32Bytes number)) (fieldBytes (field_at productLayout 1) (flagBytes states))
-      (fieldBytes (field_at productLayout 2) (sceneBytes deliver states earth))
-      (fieldBytes (field_at productLayout 3) (summariesBytes (summaries deliver states earth))) rest
+  product_is_laid_out : (rest : List ℕ) → product_of deliver number states earth ++ rest ≡ laid_out product_layout values rest
+  unfolding product_of
+  product_is_laid_out rest =
+      regroup (field_bytes (field_at product_layout 0) (u32_bytes number)) (field_bytes (field_at product_layout 1) (flag_bytes states))
+      (field_bytes (field_at product_layout 2) (scene_bytes deliver states earth))
+      (field_bytes (field_at product_layout 3) (summaries_bytes (summaries deliver states earth))) rest
 
-  pub length-product : length (productOf deliver number states earth) ≡ productSize
-  length-product =
-      ap length (sym (append-nil (productOf deliver number states earth)) ∙ product-is-laid-out [])
-      ∙ length-laid-out productLayout values [] values-are-sized
+  pub length_product : length (product_of deliver number states earth) ≡ product_size
+  length_product =
+      ap length (sym (append-nil (product_of deliver number states earth)) ∙ product_is_laid_out [])
+      ∙ length_laid_out product_layout values [] values_are_sized
 
   module _ (rest : List ℕ) where
-    pub layout-of-product : layoutIsRight (productOf deliver number states earth ++ rest) 0 productLayout ≡ true
-    layout-of-product = rw (product-is-laid-out rest) (laid-out-is-right productLayout values rest values-are-sized)
+    pub layout_of_product : layout_is_right (product_of deliver number states earth ++ rest) 0 product_layout ≡ true
+    layout_of_product = rw (product_is_laid_out rest) (laid_out_is_right product_layout values rest values_are_sized)
 
-    value-in-product : (k : ℕ) → k < length productLayout → StandsAt (productOf deliver number states earth ++ rest) (valueStart productLayout k) (get_or values k [])
-    value-in-product k below = rw (product-is-laid-out rest) (value-stands productLayout values rest values-are-sized k below)
+    value_in_product : (k : ℕ) → k < length product_layout → StandsAt (product_of deliver number states earth ++ rest) (value_start product_layout k) (get_or values k [])
+    value_in_product k below = rw (product_is_laid_out rest) (value_stands product_layout values rest values_are_sized k below)
 
     -- ---- each number of a product
 
-    pub number-in-product : u32_at (productOf deliver number states earth ++ rest) (valueStart productLayout 0) ≡ number
-    number-in-product = u32-that-stands _ (valueStart productLayout 0) number (value-in-product 0 (omega arith))
+    pub number_in_product : u32_at (product_of deliver number states earth ++ rest) (value_start product_layout 0) ≡ number
+    number_in_product = u32_that_stands _ (value_start product_layout 0) number (value_in_product 0 (omega arith))
 
     module _ (c : ℕ) (below : c < channels) where
       abbrev channel : Channel
-      channel = get_or states c noChannel
+      channel = get_or states c no_channel
 
       abbrev summary : Summary
-      summary = summaryOf (deliver c) channel (earthPart earth c)
+      summary = summary_of (deliver c) channel (earth_part earth c)
 
-      abbrev summaryPlace : ℕ
-      summaryPlace = valueStart productLayout 3 + summarySize * c
+      abbrev summary_place : ℕ
+      summary_place = value_start product_layout 3 + summary_size * c
 
-      pub flag-in-product : get_or (productOf deliver number states earth ++ rest) (valueStart productLayout 1 + c) 0 ≡ (get_or states c noChannel).flag
-      unfolding flagBytes
-      flag-in-product =
-          (value-in-product 1 (omega arith)).each c 0 (omega (arith, length-flag-bytes states))
-          ∙ get_d_tabulate (λ k. (get_or states k noChannel).flag) channels c 0 below
+      pub flag_in_product : get_or (product_of deliver number states earth ++ rest) (value_start product_layout 1 + c) 0 ≡ (get_or states c no_channel).flag
+      unfolding flag_bytes
+      flag_in_product =
+          (value_in_product 1 (omega arith)).each c 0 (omega (arith, length_flag_bytes states))
+          ∙ get_d_tabulate (λ k. (get_or states k no_channel).flag) channels c 0 below
 
-      summary-stands : StandsAt (productOf deliver number states earth ++ rest) summaryPlace (summaryBytes summary)
-      unfolding summariesBytes summaries
-      summary-stands =
+      summary_stands : StandsAt (product_of deliver number states earth ++ rest) summary_place (summary_bytes summary)
+      unfolding summaries_bytes summaries
+      summary_stands =
           let all = summaries deliver states earth in
-          let bytes : ℕ → List ℕ = λ k. summaryBytes (get_or all k noneDelivered) in
-          let same : bytes c ≡ summaryBytes summary =
-          ap summaryBytes (get_d_tabulate (λ k. summaryOf (deliver k) (get_or states k noChannel) (earthPart earth k)) channels c noneDelivered below) in
-          subst (StandsAt (productOf deliver number states earth ++ rest) summaryPlace) same
-          (stands-inside _ (summariesBytes all) (bytes c) (valueStart productLayout 3) (summarySize * c)
-          (omega (arith, length-summary-bytes (get_or all c noneDelivered), length-summaries-bytes all))
-          (value-in-product 3 (omega arith))
-          (cell-stands bytes summarySize (λ k. length-summary-bytes (get_or all k noneDelivered)) channels c below))
+          let bytes : ℕ → List ℕ = λ k. summary_bytes (get_or all k none_delivered) in
+          let same : bytes c ≡ summary_bytes summary =
+          ap summary_bytes (get_d_tabulate (λ k. summary_of (deliver k) (get_or states k no_channel) (earth_part earth k)) channels c none_delivered below) in
+          subst (StandsAt (product_of deliver number states earth ++ rest) summary_place) same
+          (stands_inside _ (summaries_bytes all) (bytes c) (value_start product_layout 3) (summary_size * c)
+          (omega (arith, length_summary_bytes (get_or all c none_delivered), length_summaries_bytes all))
+          (value_in_product 3 (omega arith))
+          (cell_stands bytes summary_size (λ k. length_summary_bytes (get_or all k none_delivered)) channels c below))
 
-      pub count-in-product : u16At (productOf deliver number states earth ++ rest) (valueStart productLayout 3 + summarySize * c)
-          ≡ (summaryOf (deliver c) (get_or states c noChannel) (earthPart earth c)).count
-      unfolding summaryBytes
-      count-in-product =
-          let count = u16Bytes summary.count in
-          u16-that-stands _ summaryPlace summary.count
-          (subst (λ k. StandsAt (productOf deliver number states earth ++ rest) k count) (add-zero summaryPlace)
-          (stands-inside _ (summaryBytes summary) count summaryPlace 0 (omega arith) summary-stands (stands-at-front count _)))
+      pub count_in_product : u16_at (product_of deliver number states earth ++ rest) (value_start product_layout 3 + summary_size * c)
+          ≡ (summary_of (deliver c) (get_or states c no_channel) (earth_part earth c)).count
+      unfolding summary_bytes
+      count_in_product =
+          let count = u16_bytes summary.count in
+          u16_that_stands _ summary_place summary.count
+          (subst (λ k. StandsAt (product_of deliver number states earth ++ rest) k count) (add-zero summary_place)
+          (stands_inside _ (summary_bytes summary) count summary_place 0 (omega arith) summary_stands (stands_at_front count _)))
 
-      pub low-in-product : u32_at (productOf deliver number states earth ++ rest) (valueStart productLayout 3 + summarySize * c + 2)
-          ≡ to_bits binary32 (summaryOf (deliver c) (get_or states c noChannel) (earthPart earth c)).low
-      unfolding summaryBytes
-      low-in-product =
-          let low = u32Bytes (to_bits binary32 summary.low) in
-          u32-that-stands _ (summaryPlace + 2) (to_bits binary32 summary.low)
-          (stands-inside _ (summaryBytes summary) low summaryPlace 2 (omega arith) summary-stands
-          (stands-behind (u16Bytes summary.count) _ low 2 0 refl (stands-at-front low _)))
+      pub low_in_product : u32_at (product_of deliver number states earth ++ rest) (value_start product_layout 3 + summary_size * c + 2)
+          ≡ to_bits binary32 (summary_of (deliver c) (get_or states c no_channel) (earth_part earth c)).low
+      unfolding summary_bytes
+      low_in_product =
+          let low = u32_bytes (to_bits binary32 summary.low) in
+          u32_that_stands _ (summary_place + 2) (to_bits binary32 summary.low)
+          (stands_inside _ (summary_bytes summary) low summary_place 2 (omega arith) summary_stands
+          (stands_behind (u16_bytes summary.count) _ low 2 0 refl (stands_at_front low _)))
 
-      pub high-in-product : u32_at (productOf deliver number states earth ++ rest) (valueStart productLayout 3 + summarySize * c + 6)
-          ≡ to_bits binary32 (summaryOf (deliver c) (get_or states c noChannel) (earthPart earth c)).high
-      unfolding summaryBytes
-      high-in-product =
-          let low = u32Bytes (to_bits binary32 summary.low) in
-          let high = u32Bytes (to_bits binary32 summary.high) in
-          u32-that-stands _ (summaryPlace + 6) (to_bits binary32 summary.high)
-          (stands-inside _ (summaryBytes summary) high summaryPlace 6 (omega arith) summary-stands
-          (stands-behind (u16Bytes summary.count ++ low) high high 6 0 refl (stands-at-front high [])))
+      pub high_in_product : u32_at (product_of deliver number states earth ++ rest) (value_start product_layout 3 + summary_size * c + 6)
+          ≡ to_bits binary32 (summary_of (deliver c) (get_or states c no_channel) (earth_part earth c)).high
+      unfolding summary_bytes
+      high_in_product =
+          let low = u32_bytes (to_bits binary32 summary.low) in
+          let high = u32_bytes (to_bits binary32 summary.high) in
+          u32_that_stands _ (summary_place + 6) (to_bits binary32 summary.high)
+          (stands_inside _ (summary_bytes summary) high summary_place 6 (omega arith) summary_stands
+          (stands_behind (u16_bytes summary.count ++ low) high high 6 0 refl (stands_at_front high [])))
 
       module _ (i : ℕ) (inside : i < positions) where
-        abbrev scenePlace : ℕ
-        scenePlace = valueStart productLayout 2 + stretchSize * c + 4 * i
+        abbrev scene_place : ℕ
+        scene_place = value_start product_layout 2 + stretch_size * c + 4 * i
 
-        pub scene-stands : StandsAt (productOf deliver number states earth ++ rest) (valueStart productLayout 2 + stretchSize * c + 4 * i)
-            (u32Bytes (bits (scene_at (deliver c) (get_or states c noChannel) (earthPart earth c) i)))
-        unfolding sceneBytes channelScenes
-        scene-stands =
-            let scenes = sceneBytes deliver states earth in
-            let stretch : ℕ → List ℕ = λ k. channelScenes (deliver k) (get_or states k noChannel) (earthPart earth k) in
-            let bytes : ℕ → List ℕ = λ k. u32Bytes (bits (scene_at (deliver c) channel (earthPart earth c) k)) in
-            let long = length-channel-scenes (deliver c) channel (earthPart earth c) in
-            stands-inside _ (stretch c) (bytes i) (valueStart productLayout 2 + stretchSize * c) (4 * i) (omega arith)
-            (stands-inside _ scenes (stretch c) (valueStart productLayout 2) (stretchSize * c) (omega (arith, length-scene-bytes deliver states earth))
-            (value-in-product 2 (omega arith))
-            (cell-stands stretch stretchSize (λ k. length-channel-scenes (deliver k) (get_or states k noChannel) (earthPart earth k)) channels c below))
-            (cell-stands bytes 4 (λ k. refl) positions i inside)
+        pub scene_stands : StandsAt (product_of deliver number states earth ++ rest) (value_start product_layout 2 + stretch_size * c + 4 * i)
+            (u32_bytes (bits (scene_at (deliver c) (get_or states c no_channel) (earth_part earth c) i)))
+        unfolding scene_bytes channel_scenes
+        scene_stands =
+            let scenes = scene_bytes deliver states earth in
+            let stretch : ℕ → List ℕ = λ k. channel_scenes (deliver k) (get_or states k no_channel) (earth_part earth k) in
+            let bytes : ℕ → List ℕ = λ k. u32_bytes (bits (scene_at (deliver c) channel (earth_part earth c) k)) in
+            let long = length_channel_scenes (deliver c) channel (earth_part earth c) in
+            stands_inside _ (stretch c) (bytes i) (value_start product_layout 2 + stretch_size * c) (4 * i) (omega arith)
+            (stands_inside _ scenes (stretch c) (value_start product_layout 2) (stretch_size * c) (omega (arith, length_scene_bytes deliver states earth))
+            (value_in_product 2 (omega arith))
+            (cell_stands stretch stretch_size (λ k. length_channel_scenes (deliver k) (get_or states k no_channel) (earth_part earth k)) channels c below))
+            (cell_stands bytes 4 (λ k. refl) positions i inside)
 
-        pub scene-in-product : u32_at (productOf deliver number states earth ++ rest) (valueStart productLayout 2 + stretchSize * c + 4 * i)
-            ≡ bits (scene_at (deliver c) (get_or states c noChannel) (earthPart earth c) i)
-        scene-in-product = u32-that-stands _ scenePlace _ scene-stands
+        pub scene_in_product : u32_at (product_of deliver number states earth ++ rest) (value_start product_layout 2 + stretch_size * c + 4 * i)
+            ≡ bits (scene_at (deliver c) (get_or states c no_channel) (earth_part earth c) i)
+        scene_in_product = u32_that_stands _ scene_place _ scene_stands

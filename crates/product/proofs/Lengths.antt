@@ -3,36 +3,36 @@ use Prim.Native.Nat.{ℕ, ◌*◌}
 use mathlib.Core.Path.{◌≡◌, refl}
 use mathlib.Core.List.{List}
 use lib.ListN.{length, get_or}
-use Rattle.lists.proofs.Cells.{length-cells}
-use Rattle.lists.proofs.Tabulate.{length-tabulate}
+use Rattle.lists.proofs.Cells.{length_cells}
+use Rattle.lists.proofs.Tabulate.{length_tabulate}
 use Rattle.instrument.specs.Instrument.{channels, positions}
 use Rattle.scene.specs.Scene.{bits}
 use Rattle.scene.specs.declared.Channel.{Channel}
 use Rattle.product.specs.declared.Summary.{Summary}
-use Rattle.product.specs.Scenes.{Deliver, scene_at, noChannel}
-use Rattle.record.specs.Record.{earthPart}
-use Rattle.product.specs.Summary.{noneDelivered}
-use Rattle.fields.specs.Numbers.{u32Bytes}
-use Rattle.product.specs.Product.{stretchSize, summarySize, channelScenes, sceneBytes, summaryBytes, summariesBytes, flagBytes}
+use Rattle.product.specs.Scenes.{Deliver, scene_at, no_channel}
+use Rattle.record.specs.Record.{earth_part}
+use Rattle.product.specs.Summary.{none_delivered}
+use Rattle.fields.specs.Numbers.{u32_bytes}
+use Rattle.product.specs.Product.{stretch_size, summary_size, channel_scenes, scene_bytes, summary_bytes, summaries_bytes, flag_bytes}
 
-pub length-channel-scenes : (deliver : Deliver) (channel : Channel) (part : List ℕ) → length (channelScenes deliver channel part) ≡ stretchSize
-unfolding channelScenes
-length-channel-scenes deliver channel part = length-cells (λ i. u32Bytes (bits (scene_at deliver channel part i))) 4 (λ i. refl) positions
+pub length_channel_scenes : (deliver : Deliver) (channel : Channel) (part : List ℕ) → length (channel_scenes deliver channel part) ≡ stretch_size
+unfolding channel_scenes
+length_channel_scenes deliver channel part = length_cells (λ i. u32_bytes (bits (scene_at deliver channel part i))) 4 (λ i. refl) positions
 
-pub length-scene-bytes : (deliver : ℕ → Deliver) (states : List Channel) (earth : List ℕ) → length (sceneBytes deliver states earth) ≡ stretchSize * channels
-unfolding sceneBytes
-length-scene-bytes deliver states earth =
-    length-cells (λ c. channelScenes (deliver c) (get_or states c noChannel) (earthPart earth c)) stretchSize
-    (λ c. length-channel-scenes (deliver c) (get_or states c noChannel) (earthPart earth c)) channels
+pub length_scene_bytes : (deliver : ℕ → Deliver) (states : List Channel) (earth : List ℕ) → length (scene_bytes deliver states earth) ≡ stretch_size * channels
+unfolding scene_bytes
+length_scene_bytes deliver states earth =
+    length_cells (λ c. channel_scenes (deliver c) (get_or states c no_channel) (earth_part earth c)) stretch_size
+    (λ c. length_channel_scenes (deliver c) (get_or states c no_channel) (earth_part earth c)) channels
 
-pub length-summary-bytes : (s : Summary) → length (summaryBytes s) ≡ summarySize
-unfolding summaryBytes
-length-summary-bytes s = refl
+pub length_summary_bytes : (s : Summary) → length (summary_bytes s) ≡ summary_size
+unfolding summary_bytes
+length_summary_bytes s = refl
 
-pub length-summaries-bytes : (all : List Summary) → length (summariesBytes all) ≡ summarySize * channels
-unfolding summariesBytes
-length-summaries-bytes all = length-cells (λ c. summaryBytes (get_or all c noneDelivered)) summarySize (λ c. length-summary-bytes (get_or all c noneDelivered)) channels
+pub length_summaries_bytes : (all : List Summary) → length (summaries_bytes all) ≡ summary_size * channels
+unfolding summaries_bytes
+length_summaries_bytes all = length_cells (λ c. summary_bytes (get_or all c none_delivered)) summary_size (λ c. length_summary_bytes (get_or all c none_delivered)) channels
 
-pub length-flag-bytes : (states : List Channel) → length (flagBytes states) ≡ channels
-unfolding flagBytes
-length-flag-bytes states = length-tabulate (λ c. (get_or states c noChannel).flag) channels
+pub length_flag_bytes : (states : List Channel) → length (flag_bytes states) ≡ channels
+unfolding flag_bytes
+length_flag_bytes states = length_tabulate (λ c. (get_or states c no_channel).flag) channels

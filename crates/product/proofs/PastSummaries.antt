@@ -4,12 +4,12 @@ use mathlib.Core.Path.{◌≡◌}
 use mathlib.Core.List.{List}
 use lib.Ieee.{nan}
 use lib.ListN.{length, get_or}
-use Rattle.lists.proofs.Elements.{any-default}
+use Rattle.lists.proofs.Elements.{any_default}
 use Rattle.product.specs.declared.Summary.{Summary}
-use Rattle.product.specs.Summary.{noneDelivered}
+use Rattle.product.specs.Summary.{none_delivered}
 
-abbrev pub pastSummaries : Summary
-pastSummaries = record { count = 0; low = nan; high = nan }
+abbrev pub past_summaries : Summary
+past_summaries = record { count = 0; low = nan; high = nan }
 
-pub summary-of : (all : List Summary) (c : ℕ) → c < length all → get_or all c pastSummaries ≡ get_or all c noneDelivered
-summary-of all c below = any-default all c pastSummaries noneDelivered below
+pub summary_of : (all : List Summary) (c : ℕ) → c < length all → get_or all c past_summaries ≡ get_or all c none_delivered
+summary_of all c below = any_default all c past_summaries none_delivered below

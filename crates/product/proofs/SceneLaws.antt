@@ -9,20 +9,20 @@ use lib.IntN.{ℤ, pos, nat_abs}
 use lib.Ieee.{Float, is_nan}
 use borrow.Author.Tests.{eqb-true}
 use Rattle.integers.specs.Bounds.{Bounded}
-use Rattle.integers.proofs.Order.{at-most-trans}
-use Rattle.integers.proofs.Naturals.{natural-at-most}
-use Rattle.bias.specs.Bias.{eIn}
+use Rattle.integers.proofs.Order.{at_most_trans}
+use Rattle.integers.proofs.Naturals.{natural_at_most}
+use Rattle.bias.specs.Bias.{e_in}
 use Rattle.bias.specs.Ranges.{PairRange}
 use Rattle.scene.specs.declared.Scene.{Scene}
 use Rattle.scene.specs.declared.Scene.TheVariants.{Kelvin, Flagged}
 use Rattle.scene.specs.Scene.{kelvin, value, scene_of}
-use Rattle.scene.proofs.Exact.{scene-not-nan, flagged-not-nan}
-use Rattle.scene.proofs.Delivered.{temperatureOf, Passes, WithinGuard, delivered-exactly-when}
+use Rattle.scene.proofs.Exact.{scene_not_nan, flagged_not_nan}
+use Rattle.scene.proofs.Delivered.{temperature_of, Passes, WithinGuard, delivered_exactly_when}
 use Rattle.scene.proofs.Ranges.{SceneRange}
-use Rattle.scene.proofs.BiasRange.{temperature-low, temperature-high, biased-within}
+use Rattle.scene.proofs.BiasRange.{temperature_low, temperature_high, biased_within}
 use Rattle.scene.specs.Temperature.{temperature}
 use Rattle.scene.specs.declared.Channel.{Channel}
-use Rattle.product.specs.Scenes.{withBias, sceneIn}
+use Rattle.product.specs.Scenes.{with_bias, scene_in}
 
 -- a temperature in whole units
 pub record InUnits (x : Float) : Type 0 where
@@ -33,23 +33,23 @@ pub record InUnits (x : Float) : Type 0 where
 
 -- what is delivered in a channel is a whole number of units from 1 to 16,777,215
 pub record InUnitsBy (deliver : ℤ → ℤ) (channel : Channel) : Type 0 where
-  pub within : channel.flag ≡ 0 → (count : ℕ) → Passes channel.constants count → WithinGuard (deliver (temperatureOf channel.constants count))
+  pub within : channel.flag ≡ 0 → (count : ℕ) → Passes channel.constants count → WithinGuard (deliver (temperature_of channel.constants count))
 
 module _ (deliver : ℤ → ℤ) (channel : Channel) (count : ℕ) where
   -- what holds of the mark of a flagged channel and of the scene of the constants holds of the channel's scene
-  scene-in-cases : (P : Scene → Type 0) → P Flagged → (channel.flag ≡ 0 → P (scene_of deliver channel.constants count)) → P (sceneIn deliver channel count)
-  unfolding sceneIn
-  scene-in-cases P flagged scene = by-test (eqb channel.flag 0) refl
+  scene_in_cases : (P : Scene → Type 0) → P Flagged → (channel.flag ≡ 0 → P (scene_of deliver channel.constants count)) → P (scene_in deliver channel count)
+  unfolding scene_in
+  scene_in_cases P flagged scene = by_test (eqb channel.flag 0) refl
     where
-      by-test : (b : Bool) → eqb channel.flag 0 ≡ b → P (cond b (scene_of deliver channel.constants count) Flagged)
-      by-test true zero_flag = scene (eqb-true channel.flag 0 zero_flag)
-      by-test false other = flagged
+      by_test : (b : Bool) → eqb channel.flag 0 ≡ b → P (cond b (scene_of deliver channel.constants count) Flagged)
+      by_test true zero_flag = scene (eqb-true channel.flag 0 zero_flag)
+      by_test false other = flagged
 
-  pub scene-in-not-nan : T (not (is_nan (value (sceneIn deliver channel count))))
-  scene-in-not-nan = scene-in-cases (λ s. T (not (is_nan (value s)))) flagged-not-nan (λ zero_flag. scene-not-nan deliver channel.constants count)
+  pub scene_in_not_nan : T (not (is_nan (value (scene_in deliver channel count))))
+  scene_in_not_nan = scene_in_cases (λ s. T (not (is_nan (value s)))) flagged_not_nan (λ zero_flag. scene_not_nan deliver channel.constants count)
 
-  pub temperature-in-units : InUnitsBy deliver channel → (x : Float) → sceneIn deliver channel count ≡ Kelvin x → InUnits x
-  temperature-in-units units x = scene-in-cases (λ s. s ≡ Kelvin x → InUnits x) flagged-is-none scene
+  pub temperature_in_units : InUnitsBy deliver channel → (x : Float) → scene_in deliver channel count ≡ Kelvin x → InUnits x
+  temperature_in_units units x = scene_in_cases (λ s. s ≡ Kelvin x → InUnits x) flagged-is-none scene
     where
       flagged-is-none : Flagged ≡ Kelvin x → InUnits x
       flagged-is-none e = let z : ◌≡◌ {A = ℕ} 0 1 = cc in absurd (omega arith)
@@ -57,20 +57,20 @@ module _ (deliver : ℤ → ℤ) (channel : Channel) (count : ℕ) where
       scene : channel.flag ≡ 0 → scene_of deliver channel.constants count ≡ Kelvin x → InUnits x
       scene zero_flag e =
           let k = channel.constants in
-          let both = delivered-exactly-when deliver k count in
+          let both = delivered_exactly_when deliver k count in
           let passed = both.0 x e in
           let within = units.within zero_flag count passed in
           record {
-            units = nat_abs (deliver (temperatureOf k count));
+            units = nat_abs (deliver (temperature_of k count));
             low = within.low;
             high = within.high;
             same = ap value (sym e ∙ both.1 passed);
           }
 
 -- ---- by an accepted bias file
-pub e-bounded : {part : List ℕ} {i : ℕ} → PairRange part i → Bounded (eIn part i) (pos 32768)
-e-bounded h = record { low = h.e-low; high = at-most-trans h.e-high (natural-at-most (omega arith)) }
+pub e_bounded : {part : List ℕ} {i : ℕ} → PairRange part i → Bounded (e_in part i) (pos 32768)
+e_bounded h = record { low = h.e-low; high = at_most_trans h.e-high (natural_at_most (omega arith)) }
 
 -- of a scene that is not outside, in a channel whose constants are in their ranges
-pub units-by-bias : {part : List ℕ} {i : ℕ} → PairRange part i → {tc rise tnl d n : ℤ} → SceneRange tc rise tnl d n → WithinGuard (withBias part i (temperature tc rise tnl d n))
-units-by-bias h range = biased-within h.c0 (e-bounded h) (temperature-low range) (temperature-high range)
+pub units_by_bias : {part : List ℕ} {i : ℕ} → PairRange part i → {tc rise tnl d n : ℤ} → SceneRange tc rise tnl d n → WithinGuard (with_bias part i (temperature tc rise tnl d n))
+units_by_bias h range = biased_within h.c0 (e_bounded h) (temperature_low range) (temperature_high range)

@@ -21,87 +21,87 @@ use Rattle.lists.proofs.Tabulate.{get_d_tabulate}
 use Rattle.scene.specs.declared.Scene.{Scene}
 use Rattle.scene.specs.declared.Scene.TheVariants.{Kelvin, Flagged, Outside, Guard}
 use Rattle.scene.specs.Scene.{value}
-use Rattle.scene.proofs.Exact.{kelvin-order}
+use Rattle.scene.proofs.Exact.{kelvin_order}
 use Rattle.scene.specs.declared.Channel.{Channel}
 use Rattle.instrument.specs.Instrument.{channels, positions}
 use Rattle.product.specs.declared.Summary.{Summary}
-use Rattle.product.specs.Scenes.{Deliver, scene_at, noChannel, sceneDelivered}
-use Rattle.record.specs.Record.{earthPart}
-use Rattle.product.specs.Summary.{noneDelivered, withTemperature, withScene, summaryTo, summaryOf}
-use Rattle.product.specs.Product.{summaries, deliveredCount}
-use Rattle.product.proofs.SceneLaws.{InUnits, InUnitsBy, temperature-in-units}
+use Rattle.product.specs.Scenes.{Deliver, scene_at, no_channel, scene_delivered}
+use Rattle.record.specs.Record.{earth_part}
+use Rattle.product.specs.Summary.{none_delivered, with_temperature, with_scene, summary_to, summary_of}
+use Rattle.product.specs.Product.{summaries, delivered_count}
+use Rattle.product.proofs.SceneLaws.{InUnits, InUnitsBy, temperature_in_units}
 
 -- ---- scene by scene
 
 module _ (scenes : ℕ → Scene) where
-  pub summary-to-none : summaryTo scenes 0 ≡ noneDelivered
-  unfolding summaryTo
-  summary-to-none = refl
+  pub summary_to_none : summary_to scenes 0 ≡ none_delivered
+  unfolding summary_to
+  summary_to_none = refl
 
-  pub summary-to-more : (n : ℕ) → summaryTo scenes (n + 1) ≡ withScene (summaryTo scenes n) (scenes n)
-  unfolding summaryTo
-  summary-to-more n = rw (add-one n)
+  pub summary_to_more : (n : ℕ) → summary_to scenes (n + 1) ≡ with_scene (summary_to scenes n) (scenes n)
+  unfolding summary_to
+  summary_to_more n = rw (add-one n)
 
 -- ---- the count
 
-count-with-scene : (s : Summary) (scene : Scene) → (withScene s scene).count ≡ s.count + cond (sceneDelivered scene) 1 0
-unfolding withScene withTemperature
-count-with-scene s (Kelvin x) = refl
-count-with-scene s Flagged = sym (add-zero s.count)
-count-with-scene s Outside = sym (add-zero s.count)
-count-with-scene s Guard = sym (add-zero s.count)
+count_with_scene : (s : Summary) (scene : Scene) → (with_scene s scene).count ≡ s.count + cond (scene_delivered scene) 1 0
+unfolding with_scene with_temperature
+count_with_scene s (Kelvin x) = refl
+count_with_scene s Flagged = sym (add-zero s.count)
+count_with_scene s Outside = sym (add-zero s.count)
+count_with_scene s Guard = sym (add-zero s.count)
 
 module _ (scenes : ℕ → Scene) where
-  count-is-delivered : (n : ℕ) → (summaryTo scenes n).count ≡ count (λ i. sceneDelivered (scenes i)) n
-  unfolding summaryTo count
-  count-is-delivered zero = refl
-  count-is-delivered (suc n) =
-      count-with-scene (summaryTo scenes n) (scenes n) ∙ ap (λ k. k + cond (sceneDelivered (scenes n)) 1 0) (count-is-delivered n)
+  count_is_delivered : (n : ℕ) → (summary_to scenes n).count ≡ count (λ i. scene_delivered (scenes i)) n
+  unfolding summary_to count
+  count_is_delivered zero = refl
+  count_is_delivered (suc n) =
+      count_with_scene (summary_to scenes n) (scenes n) ∙ ap (λ k. k + cond (scene_delivered (scenes n)) 1 0) (count_is_delivered n)
 
-  pub count-at-most : (n : ℕ) → (summaryTo scenes n).count ≤ n
-  count-at-most n = rw (count-is-delivered n) (tests.count-at-most (λ i. sceneDelivered (scenes i)) n)
+  pub count_at_most : (n : ℕ) → (summary_to scenes n).count ≤ n
+  count_at_most n = rw (count_is_delivered n) (tests.count_at_most (λ i. scene_delivered (scenes i)) n)
 
   -- a delivered scene is counted
-  counted : (n i : ℕ) → i < n → sceneDelivered (scenes i) ≡ true → 0 < (summaryTo scenes n).count
+  counted : (n i : ℕ) → i < n → scene_delivered (scenes i) ≡ true → 0 < (summary_to scenes n).count
   counted n i below is =
-      let holds : ℕ → Bool = λ k. sceneDelivered (scenes k) in
-      omega (arith, count-is-delivered n, tests.count-when-true holds i is, tests.count-rises holds (i + 1) n (omega arith))
+      let holds : ℕ → Bool = λ k. scene_delivered (scenes k) in
+      omega (arith, count_is_delivered n, tests.count_when_true holds i is, tests.count_rises holds (i + 1) n (omega arith))
 
-pub summary-count : (deliver : Deliver) (channel : Channel) (part : List ℕ) → (summaryOf deliver channel part).count ≡ count (λ i. sceneDelivered (scene_at deliver channel part i)) positions
-summary-count deliver channel part = count-is-delivered (scene_at deliver channel part) positions
+pub summary_count : (deliver : Deliver) (channel : Channel) (part : List ℕ) → (summary_of deliver channel part).count ≡ count (λ i. scene_delivered (scene_at deliver channel part i)) positions
+summary_count deliver channel part = count_is_delivered (scene_at deliver channel part) positions
 
 module _ (deliver : ℕ → Deliver) (states : List Channel) (earth : List ℕ) where
   -- what a product delivers is the sum over its channels
-  pub delivered-count : deliveredCount deliver states earth
-      ≡ sum (λ c. count (λ i. sceneDelivered (scene_at (deliver c) (get_or states c noChannel) (earthPart earth c) i)) positions) channels
-  unfolding deliveredCount
-  delivered-count = sum_same _ _ channels (λ c below. summary-count (deliver c) (get_or states c noChannel) (earthPart earth c))
+  pub delivered_count_lem : delivered_count deliver states earth
+      ≡ sum (λ c. count (λ i. scene_delivered (scene_at (deliver c) (get_or states c no_channel) (earth_part earth c) i)) positions) channels
+  unfolding delivered_count
+  delivered_count_lem = sum_same _ _ channels (λ c below. summary_count (deliver c) (get_or states c no_channel) (earth_part earth c))
 
   -- the counts of the summaries that a product holds add up to what it delivers
-  pub counts-of-summaries : sum (λ c. (get_or (summaries deliver states earth) c noneDelivered).count) channels ≡ deliveredCount deliver states earth
-  unfolding summaries deliveredCount
-  counts-of-summaries =
-      let each : ℕ → Summary = λ c. summaryOf (deliver c) (get_or states c noChannel) (earthPart earth c) in
-      sum_same _ (λ c. (each c).count) channels (λ c below. ap (λ (s : Summary). s.count) (get_d_tabulate each channels c noneDelivered below))
+  pub counts_of_summaries : sum (λ c. (get_or (summaries deliver states earth) c none_delivered).count) channels ≡ delivered_count deliver states earth
+  unfolding summaries delivered_count
+  counts_of_summaries =
+      let each : ℕ → Summary = λ c. summary_of (deliver c) (get_or states c no_channel) (earth_part earth c) in
+      sum_same _ (λ c. (each c).count) channels (λ c below. ap (λ (s : Summary). s.count) (get_d_tabulate each channels c none_delivered below))
 
 -- ---- no scene delivered
 
-none-with-scene : (s : Summary) (scene : Scene) → (s.count ≡ 0 → s ≡ noneDelivered) → (withScene s scene).count ≡ 0 → withScene s scene ≡ noneDelivered
-unfolding withScene withTemperature
-none-with-scene s (Kelvin x) before none = absurd (omega arith)
-none-with-scene s Flagged before none = before none
-none-with-scene s Outside before none = before none
-none-with-scene s Guard before none = before none
+none_with_scene : (s : Summary) (scene : Scene) → (s.count ≡ 0 → s ≡ none_delivered) → (with_scene s scene).count ≡ 0 → with_scene s scene ≡ none_delivered
+unfolding with_scene with_temperature
+none_with_scene s (Kelvin x) before none = absurd (omega arith)
+none_with_scene s Flagged before none = before none
+none_with_scene s Outside before none = before none
+none_with_scene s Guard before none = before none
 
-none-to : (scenes : ℕ → Scene) (n : ℕ) → (summaryTo scenes n).count ≡ 0 → summaryTo scenes n ≡ noneDelivered
-unfolding summaryTo
-none-to scenes zero none = refl
-none-to scenes (suc n) none = none-with-scene (summaryTo scenes n) (scenes n) (none-to scenes n) none
+none_to : (scenes : ℕ → Scene) (n : ℕ) → (summary_to scenes n).count ≡ 0 → summary_to scenes n ≡ none_delivered
+unfolding summary_to
+none_to scenes zero none = refl
+none_to scenes (suc n) none = none_with_scene (summary_to scenes n) (scenes n) (none_to scenes n) none
 
-pub ends-when-none : (deliver : Deliver) (channel : Channel) (part : List ℕ) → (summaryOf deliver channel part).count ≡ 0
-    → ((summaryOf deliver channel part).low ≡ fin true 1 (pos 0)) × ((summaryOf deliver channel part).high ≡ fin true 1 (pos 0))
-ends-when-none deliver channel part none =
-    let is = none-to (scene_at deliver channel part) positions none in
+pub ends_when_none : (deliver : Deliver) (channel : Channel) (part : List ℕ) → (summary_of deliver channel part).count ≡ 0
+    → ((summary_of deliver channel part).low ≡ fin true 1 (pos 0)) × ((summary_of deliver channel part).high ≡ fin true 1 (pos 0))
+ends_when_none deliver channel part none =
+    let is = none_to (scene_at deliver channel part) positions none in
     (ap (λ (s : Summary). s.low) is, ap (λ (s : Summary). s.high) is)
 
 -- ---- the ends, for either order: `before` is `lt` for the lowest, and `lt` the other way round for the highest
@@ -138,16 +138,16 @@ module _ (scenes : ℕ → Scene) (units : (i : ℕ) (x : Float) → scenes i �
         let same : x ≡ y = cc in
         subst (λ z. before z x ≡ false) same (ordered.not_itself x (units n x is))
 
-    first-end : ((i : ℕ) (y : Float) → i < n → scenes i ≡ Kelvin y → before y x ≡ false) → IsEnd before scenes (suc n) x
-    first-end earlier = record { place = n; below = omega arith; there = is; none_before = one_more x n earlier at_last }
+    first_end : ((i : ℕ) (y : Float) → i < n → scenes i ≡ Kelvin y → before y x ≡ false) → IsEnd before scenes (suc n) x
+    first_end earlier = record { place = n; below = omega arith; there = is; none_before = one_more x n earlier at_last }
 
-    moved-end : (z : Float) → IsEnd before scenes n z → before x z ≡ true → IsEnd before scenes (suc n) x
-    moved-end z end moves =
-        first-end
+    moved_end : (z : Float) → IsEnd before scenes n z → before x z ≡ true → IsEnd before scenes (suc n) x
+    moved_end z end moves =
+        first_end
         (λ i y below also. ordered.not-past y x z (units i y also) (units n x is) (units end.place z end.there) (end.none_before i y below also) moves)
 
-  kept-end : (n : ℕ) (z : Float) → IsEnd before scenes n z → ((y : Float) → scenes n ≡ Kelvin y → before y z ≡ false) → IsEnd before scenes (suc n) z
-  kept-end n z end last = record {
+  kept_end : (n : ℕ) (z : Float) → IsEnd before scenes n z → ((y : Float) → scenes n ≡ Kelvin y → before y z ≡ false) → IsEnd before scenes (suc n) z
+  kept_end n z end last = record {
     place = end.place;
     below = omega (arith, end.below);
     there = end.there;
@@ -155,52 +155,52 @@ module _ (scenes : ℕ → Scene) (units : (i : ℕ) (x : Float) → scenes i �
   }
 
   module _ (chosen : Summary → Float)
-      (step : (s : Summary) (x : Float) → chosen (withTemperature s x) ≡ cond (eqb s.count 0) x (cond (before x (chosen s)) x (chosen s))) where
-    end-with-temperature : (n : ℕ) (s : Summary) (x : Float) → scenes n ≡ Kelvin x → (s.count ≡ 0 → (i : ℕ) (y : Float) → i < n → scenes i ≡ Kelvin y → ⊥)
-        → (0 < s.count → IsEnd before scenes n (chosen s)) → IsEnd before scenes (suc n) (chosen (withTemperature s x))
-    end-with-temperature n s x is none earlier = rw (step s x) (by_count (dec_lt 0 s.count))
+      (step : (s : Summary) (x : Float) → chosen (with_temperature s x) ≡ cond (eqb s.count 0) x (cond (before x (chosen s)) x (chosen s))) where
+    end_with_temperature : (n : ℕ) (s : Summary) (x : Float) → scenes n ≡ Kelvin x → (s.count ≡ 0 → (i : ℕ) (y : Float) → i < n → scenes i ≡ Kelvin y → ⊥)
+        → (0 < s.count → IsEnd before scenes n (chosen s)) → IsEnd before scenes (suc n) (chosen (with_temperature s x))
+    end_with_temperature n s x is none earlier = rw (step s x) (by_count (dec_lt 0 s.count))
       where
-        by-test : 0 < s.count → (b : Bool) → before x (chosen s) ≡ b → IsEnd before scenes (suc n) (cond b x (chosen s))
-        by-test some true moves = moved-end n x is (chosen s) (earlier some) moves
-        by-test some false stays =
-            kept-end n (chosen s) (earlier some) (λ y also. subst (λ z. before z (chosen s) ≡ false) (ap value (sym is ∙ also)) stays)
+        by_test : 0 < s.count → (b : Bool) → before x (chosen s) ≡ b → IsEnd before scenes (suc n) (cond b x (chosen s))
+        by_test some true moves = moved_end n x is (chosen s) (earlier some) moves
+        by_test some false stays =
+            kept_end n (chosen s) (earlier some) (λ y also. subst (λ z. before z (chosen s) ≡ false) (ap value (sym is ∙ also)) stays)
 
         by_count : Dec (0 < s.count) → IsEnd before scenes (suc n) (cond (eqb s.count 0) x (cond (before x (chosen s)) x (chosen s)))
         by_count (yes some) =
             let other : s.count ≡ 0 → ⊥ = λ z. omega arith in
-            rw (ne_eqb s.count 0 other) (by-test some (before x (chosen s)) refl)
+            rw (ne_eqb s.count 0 other) (by_test some (before x (chosen s)) refl)
         by_count (no not_some) =
             let zero-count : s.count ≡ 0 = omega arith in
-            rw (eq-eqb s.count 0 zero-count) (first-end n x is (λ i y below also. absurd (none zero-count i y below also)))
+            rw (eq-eqb s.count 0 zero-count) (first_end n x is (λ i y below also. absurd (none zero-count i y below also)))
 
-    end-with-scene : (n : ℕ) (s : Summary) (scene : Scene) → scenes n ≡ scene → (s.count ≡ 0 → (i : ℕ) (y : Float) → i < n → scenes i ≡ Kelvin y → ⊥)
-        → (0 < s.count → IsEnd before scenes n (chosen s)) → 0 < (withScene s scene).count → IsEnd before scenes (suc n) (chosen (withScene s scene))
-    unfolding withScene
-    end-with-scene n s (Kelvin x) is none earlier some = end-with-temperature n s x is none earlier
-    end-with-scene n s Flagged is none earlier some = kept-end n (chosen s) (earlier some) (λ y also. let z : ◌≡◌ {A = ℕ} 0 1 = cc in absurd (omega arith))
-    end-with-scene n s Outside is none earlier some = kept-end n (chosen s) (earlier some) (λ y also. let z : ◌≡◌ {A = ℕ} 0 1 = cc in absurd (omega arith))
-    end-with-scene n s Guard is none earlier some = kept-end n (chosen s) (earlier some) (λ y also. let z : ◌≡◌ {A = ℕ} 0 1 = cc in absurd (omega arith))
+    end_with_scene : (n : ℕ) (s : Summary) (scene : Scene) → scenes n ≡ scene → (s.count ≡ 0 → (i : ℕ) (y : Float) → i < n → scenes i ≡ Kelvin y → ⊥)
+        → (0 < s.count → IsEnd before scenes n (chosen s)) → 0 < (with_scene s scene).count → IsEnd before scenes (suc n) (chosen (with_scene s scene))
+    unfolding with_scene
+    end_with_scene n s (Kelvin x) is none earlier some = end_with_temperature n s x is none earlier
+    end_with_scene n s Flagged is none earlier some = kept_end n (chosen s) (earlier some) (λ y also. let z : ◌≡◌ {A = ℕ} 0 1 = cc in absurd (omega arith))
+    end_with_scene n s Outside is none earlier some = kept_end n (chosen s) (earlier some) (λ y also. let z : ◌≡◌ {A = ℕ} 0 1 = cc in absurd (omega arith))
+    end_with_scene n s Guard is none earlier some = kept_end n (chosen s) (earlier some) (λ y also. let z : ◌≡◌ {A = ℕ} 0 1 = cc in absurd (omega arith))
 
-    end-of-first : (n : ℕ) → 0 < (summaryTo scenes n).count → IsEnd before scenes n (chosen (summaryTo scenes n))
-    unfolding summaryTo
-    end-of-first zero some = absurd (omega arith)
-    end-of-first (suc n) some =
-        end-with-scene n (summaryTo scenes n) (scenes n) refl
-        (λ none i y below is. let c = counted scenes n i below (ap sceneDelivered is) in omega arith)
-        (end-of-first n) some
+    end_of_first : (n : ℕ) → 0 < (summary_to scenes n).count → IsEnd before scenes n (chosen (summary_to scenes n))
+    unfolding summary_to
+    end_of_first zero some = absurd (omega arith)
+    end_of_first (suc n) some =
+        end_with_scene n (summary_to scenes n) (scenes n) refl
+        (λ none i y below is. let c = counted scenes n i below (ap scene_delivered is) in omega arith)
+        (end_of_first n) some
 
 -- ---- both orders, on temperatures in units
 
-lt-of-units : (x y : Float) (p : InUnits x) (q : InUnits y) → lt x y ≡ ltb p.units q.units
-lt-of-units x y p q = ap₂ lt p.same q.same ∙ kelvin-order p.units q.units p.low p.high q.low q.high
+lt_of_units : (x y : Float) (p : InUnits x) (q : InUnits y) → lt x y ≡ ltb p.units q.units
+lt_of_units x y p q = ap₂ lt p.same q.same ∙ kelvin_order p.units q.units p.low p.high q.low q.high
 
 upwards : Ordered lt
 upwards = record {
-  not_itself = λ x p. lt-of-units x x p p ∙ le-ltb p.units p.units (omega arith);
+  not_itself = λ x p. lt_of_units x x p p ∙ le-ltb p.units p.units (omega arith);
   not-past = λ x y z p q r past moves.
-      let a = ltb-false p.units r.units (sym (lt-of-units x z p r) ∙ past) in
-      let b = ltb-true q.units r.units (sym (lt-of-units y z q r) ∙ moves) in
-      lt-of-units x y p q ∙ le-ltb p.units q.units (omega arith);
+      let a = ltb-false p.units r.units (sym (lt_of_units x z p r) ∙ past) in
+      let b = ltb-true q.units r.units (sym (lt_of_units y z q r) ∙ moves) in
+      lt_of_units x y p q ∙ le-ltb p.units q.units (omega arith);
 }
 
 abbrev pub above : Float → Float → Bool
@@ -210,16 +210,16 @@ downwards : Ordered above
 downwards = record {
   not_itself = upwards.not_itself;
   not-past = λ x y z p q r past moves.
-      let a = ltb-false r.units p.units (sym (lt-of-units z x r p) ∙ past) in
-      let b = ltb-true r.units q.units (sym (lt-of-units z y r q) ∙ moves) in
-      lt-of-units y x q p ∙ le-ltb q.units p.units (omega arith);
+      let a = ltb-false r.units p.units (sym (lt_of_units z x r p) ∙ past) in
+      let b = ltb-true r.units q.units (sym (lt_of_units z y r q) ∙ moves) in
+      lt_of_units y x q p ∙ le-ltb q.units p.units (omega arith);
 }
 
-module _ (deliver : Deliver) (channel : Channel) (part : List ℕ) (units : (i : ℕ) → InUnitsBy (deliver i) channel) (some : 0 < (summaryOf deliver channel part).count) where
-  pub lowest : IsEnd lt (scene_at deliver channel part) positions (summaryOf deliver channel part).low
-  unfolding withTemperature
-  lowest = end-of-first (scene_at deliver channel part) (λ i. temperature-in-units (deliver i) channel _ (units i)) lt upwards (λ s. s.low) (λ s x. refl) positions some
+module _ (deliver : Deliver) (channel : Channel) (part : List ℕ) (units : (i : ℕ) → InUnitsBy (deliver i) channel) (some : 0 < (summary_of deliver channel part).count) where
+  pub lowest : IsEnd lt (scene_at deliver channel part) positions (summary_of deliver channel part).low
+  unfolding with_temperature
+  lowest = end_of_first (scene_at deliver channel part) (λ i. temperature_in_units (deliver i) channel _ (units i)) lt upwards (λ s. s.low) (λ s x. refl) positions some
 
-  pub highest : IsEnd above (scene_at deliver channel part) positions (summaryOf deliver channel part).high
-  unfolding withTemperature
-  highest = end-of-first (scene_at deliver channel part) (λ i. temperature-in-units (deliver i) channel _ (units i)) above downwards (λ s. s.high) (λ s x. refl) positions some
+  pub highest : IsEnd above (scene_at deliver channel part) positions (summary_of deliver channel part).high
+  unfolding with_temperature
+  highest = end_of_first (scene_at deliver channel part) (λ i. temperature_in_units (deliver i) channel _ (units i)) above downwards (λ s. s.high) (λ s x. refl) positions some

@@ -1,11 +1,11 @@
 -- Document 01, "Scenes" and "The product", and request W1: the scenes of all channels. Channels and positions are counted from 0.
 use Rattle.std.specs.Prelude.{ℕ, ◌*◌, List, Bool, true, false, cond, eqb, ℤ}
-use Rattle.fields.specs.Numbers.{u16At}
+use Rattle.fields.specs.Numbers.{u16_at}
 use Rattle.scene.specs.declared.Scene.{Scene}
 use Rattle.scene.specs.declared.Scene.TheVariants.{Kelvin, Flagged, Outside, Guard}
-use Rattle.bias.specs.Bias.{biasPart, c0In, eIn}
+use Rattle.bias.specs.Bias.{bias_part, c0_in, e_in}
 use Rattle.scene.specs.Temperature.{biased}
-use Rattle.scene.specs.Scene.{scene_of, unbiased, noConstants}
+use Rattle.scene.specs.Scene.{scene_of, unbiased, no_constants}
 use Rattle.scene.specs.declared.Channel.{Channel}
 
 -- which temperature, in units, is delivered for T at each position of a channel
@@ -13,31 +13,31 @@ abbrev pub Deliver : Type 0
 Deliver = (position : ℕ) (T : ℤ) → ℤ
 
 -- T itself without scan bias; with it what the channel's part of the bias file says
-abbrev pub withoutBias : Deliver
-withoutBias i = unbiased
+abbrev pub without_bias : Deliver
+without_bias i = unbiased
 
-abbrev pub withBias : List ℕ → Deliver
-withBias part i = biased (c0In part i) (eIn part i)
+abbrev pub with_bias : List ℕ → Deliver
+with_bias part i = biased (c0_in part i) (e_in part i)
 
 -- the same for each channel
-abbrev pub byBias : List ℕ → (channel : ℕ) → Deliver
-byBias bias c = withBias (biasPart bias c)
+abbrev pub by_bias : List ℕ → (channel : ℕ) → Deliver
+by_bias bias c = with_bias (bias_part bias c)
 
 -- a flagged channel has no other scene
-unfoldable pub sceneIn : (ℤ → ℤ) → Channel → ℕ → Scene
-sceneIn deliver channel count = cond (eqb channel.flag 0) (scene_of deliver channel.constants count) Flagged
+unfoldable pub scene_in : (ℤ → ℤ) → Channel → ℕ → Scene
+scene_in deliver channel count = cond (eqb channel.flag 0) (scene_of deliver channel.constants count) Flagged
 
 -- past the last channel; nothing reads it
-abbrev pub noChannel : Channel
-noChannel = record { flag = 0; constants = noConstants }
+abbrev pub no_channel : Channel
+no_channel = record { flag = 0; constants = no_constants }
 
 -- scene i of a channel with this part of the earth counts
 abbrev pub scene_at : Deliver → Channel → List ℕ → ℕ → Scene
-scene_at deliver channel part i = sceneIn (deliver i) channel (u16At part (2 * i))
+scene_at deliver channel part i = scene_in (deliver i) channel (u16_at part (2 * i))
 
 -- a scene is delivered if it is a temperature
-abbrev pub sceneDelivered : Scene → Bool
-sceneDelivered (Kelvin x) = true
-sceneDelivered Flagged = false
-sceneDelivered Outside = false
-sceneDelivered Guard = false
+abbrev pub scene_delivered : Scene → Bool
+scene_delivered (Kelvin x) = true
+scene_delivered Flagged = false
+scene_delivered Outside = false
+scene_delivered Guard = false

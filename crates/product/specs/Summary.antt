@@ -10,8 +10,8 @@ use Rattle.instrument.specs.Instrument.{positions}
 use Rattle.product.specs.declared.Summary.{Summary}
 use Rattle.product.specs.Scenes.{Deliver, scene_at}
 
-abbrev pub noneDelivered : Summary
-noneDelivered = record { count = 0; low = fin true 1 (pos 0); high = fin true 1 (pos 0) }
+abbrev pub none_delivered : Summary
+none_delivered = record { count = 0; low = fin true 1 (pos 0); high = fin true 1 (pos 0) }
 
 abbrev pub lesser : Float → Float → Float
 lesser x y = cond (lt x y) x y
@@ -20,23 +20,23 @@ abbrev pub greater : Float → Float → Float
 greater x y = cond (lt y x) x y
 
 -- with one temperature more
-unfoldable pub withTemperature : Summary → Float → Summary
-withTemperature s x =
+unfoldable pub with_temperature : Summary → Float → Summary
+with_temperature s x =
     let first = eqb s.count 0 in
     record { count = s.count + 1; low = cond first x (lesser x s.low); high = cond first x (greater x s.high) }
 
 -- with one scene more
-unfoldable pub withScene : Summary → Scene → Summary
-withScene s (Kelvin x) = withTemperature s x
-withScene s Flagged = s
-withScene s Outside = s
-withScene s Guard = s
+unfoldable pub with_scene : Summary → Scene → Summary
+with_scene s (Kelvin x) = with_temperature s x
+with_scene s Flagged = s
+with_scene s Outside = s
+with_scene s Guard = s
 
 -- of the first n scenes
-unfoldable pub summaryTo : (ℕ → Scene) → ℕ → Summary
-summaryTo scenes zero = noneDelivered
-summaryTo scenes (suc n) = withScene (summaryTo scenes n) (scenes n)
+unfoldable pub summary_to : (ℕ → Scene) → ℕ → Summary
+summary_to scenes zero = none_delivered
+summary_to scenes (suc n) = with_scene (summary_to scenes n) (scenes n)
 
 -- of a channel's scenes
-abbrev pub summaryOf : Deliver → Channel → List ℕ → Summary
-summaryOf deliver channel part = summaryTo (scene_at deliver channel part) positions
+abbrev pub summary_of : Deliver → Channel → List ℕ → Summary
+summary_of deliver channel part = summary_to (scene_at deliver channel part) positions

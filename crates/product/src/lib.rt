@@ -3,14 +3,14 @@ ghost use Rattle.std.specs.Prelude.{◌≡◌, ◌++◌, ℕ, ◌+◌, ◌*◌, 
 ghost use Rattle.lists.specs.Build.{put};
 ghost use Rattle.lists.specs.Sum.{sum};
 ghost use Rattle.instrument.specs.Instrument.{channels};
-ghost use Rattle.record.specs.Record.{earthSize};
+ghost use Rattle.record.specs.Record.{earth_size};
 ghost use Rattle.scene.specs.Temperature.{biased};
-ghost use Rattle.scene.specs.Steps.{c0Of, eOf, BiasNumbers};
-ghost use Rattle.product.specs.Scenes.{sceneIn, noChannel};
+ghost use Rattle.scene.specs.Steps.{c0_of, e_of, BiasNumbers};
+ghost use Rattle.product.specs.Scenes.{scene_in, no_channel};
 ghost use Rattle.product.specs.Ranges.{ChannelStateRange};
-ghost use Rattle.product.specs.Summary.{noneDelivered, lesser, greater, withTemperature, withScene, summaryOf};
-ghost use Rattle.product.specs.Product.{productSize, stretchSize, summarySize, channelScenes, sceneBytes, summaryBytes, summaries, summariesBytes, flagBytes, productOf, deliveredCount};
-ghost use Rattle.product.specs.Steps.{Plain, withPairs, pairsSize, pairsPart, byPairs, PairsRange, scaleIn};
+ghost use Rattle.product.specs.Summary.{none_delivered, lesser, greater, with_temperature, with_scene, summary_of};
+ghost use Rattle.product.specs.Product.{product_size, stretch_size, summary_size, channel_scenes, scene_bytes, summary_bytes, summaries, summaries_bytes, flag_bytes, product_of, delivered_count};
+ghost use Rattle.product.specs.Steps.{Plain, with_pairs, pairs_size, pairs_part, by_pairs, PairsRange, scale_in};
 
 use fields::HEAD;
 use instrument::{CHANNELS, POSITIONS};
@@ -67,7 +67,7 @@ fn greater_of(x: f32, y: f32) -> f32
 
 impl Summary {
     fn none() -> Self
-        ensures { result ≡ noneDelivered }
+        ensures { result ≡ none_delivered }
     {
         Summary {
             count: 0,
@@ -78,7 +78,7 @@ impl Summary {
 
     fn with_temperature(self, x: f32) -> Self
         requires { self.count < 65535 }
-        ensures { result ≡ withTemperature self x }
+        ensures { result ≡ with_temperature self x }
     {
         if self.count == 0 {
             return Summary {
@@ -96,7 +96,7 @@ impl Summary {
 
     fn with_scene(self, s: Scene) -> Self
         requires { self.count < 65535 }
-        ensures { result ≡ withScene self s }
+        ensures { result ≡ with_scene self s }
     {
         match s {
             Scene::Kelvin(x) => self.with_temperature(x),
@@ -110,7 +110,7 @@ impl Summary {
 // What the scenes of a channel share; of a flagged channel nothing is needed.
 fn scale_in(channel: Channel) -> Scale
     requires { ChannelStateRange channel }
-    ensures { result ≡ scaleIn channel }
+    ensures { result ≡ scale_in channel }
 {
     if channel.flag != 0 {
         return Scale {
@@ -128,8 +128,8 @@ fn scale_in(channel: Channel) -> Scale
 
 // The scene of a count in a channel, after scan bias.
 fn scene_in(channel: Channel, scale: Scale, factor: u32, offset: u32, count: u16) -> Scene
-    requires { ChannelStateRange channel × (scale ≡ scaleIn channel) × BiasNumbers factor offset }
-    ensures { result ≡ sceneIn (biased (c0Of offset) (eOf factor)) channel count }
+    requires { ChannelStateRange channel × (scale ≡ scale_in channel) × BiasNumbers factor offset }
+    ensures { result ≡ scene_in (biased (c0_of offset) (e_of factor)) channel count }
 {
     if channel.flag != 0 {
         return Scene::Flagged;
@@ -142,9 +142,9 @@ fn scene_in(channel: Channel, scale: Scale, factor: u32, offset: u32, count: u16
 
 // The scenes of a channel into its own stretch; `pairs` and `part` are the channel's parts of the scan bias and of the earth counts.
 fn write_channel(out: &mut [u8], channel: Channel, pairs: &[u32], part: &[u8]) -> Summary
-    requires out_len { (length out.old ≡ stretchSize) × (length part.now ≡ earthSize) × ChannelStateRange channel }
-    requires pairs_len { (length pairs.now ≡ pairsSize) × PairsRange pairs.now }
-    ensures { (result ≡ summaryOf (withPairs pairs.now) channel part.now) × (out.new ≡ channelScenes (withPairs pairs.now) channel part.now) }
+    requires out_len { (length out.old ≡ stretch_size) × (length part.now ≡ earth_size) × ChannelStateRange channel }
+    requires pairs_len { (length pairs.now ≡ pairs_size) × PairsRange pairs.now }
+    ensures { (result ≡ summary_of (with_pairs pairs.now) channel part.now) × (out.new ≡ channel_scenes (with_pairs pairs.now) channel part.now) }
 {
     let scale = scale_in(channel);
     let mut summary = Summary::none();
@@ -165,9 +165,9 @@ fn write_scenes(
     pairs: &[u32],
     earth: &[u8],
 ) -> [Summary; CHANNELS]
-    requires out_len { (length out.old ≡ stretchSize * channels) × (length earth.now ≡ earthSize * channels) × ((c : ℕ) → c < channels → ChannelStateRange (get_or states c noChannel)) }
-    requires pairs_len { (length pairs.now ≡ pairsSize * channels) × ((c : ℕ) → c < channels → PairsRange (pairsPart pairs.now c)) }
-    ensures { (result ≡ summaries (byPairs pairs.now) states earth.now) × (out.new ≡ sceneBytes (byPairs pairs.now) states earth.now) }
+    requires out_len { (length out.old ≡ stretch_size * channels) × (length earth.now ≡ earth_size * channels) × ((c : ℕ) → c < channels → ChannelStateRange (get_or states c no_channel)) }
+    requires pairs_len { (length pairs.now ≡ pairs_size * channels) × ((c : ℕ) → c < channels → PairsRange (pairs_part pairs.now c)) }
+    ensures { (result ≡ summaries (by_pairs pairs.now) states earth.now) × (out.new ≡ scene_bytes (by_pairs pairs.now) states earth.now) }
 {
     let none = Summary::none();
     let mut all = [none; CHANNELS];
@@ -188,8 +188,8 @@ fn write_scenes(
 }
 
 fn put_summary(out: &mut [u8], at: usize, s: Summary)
-    requires { (at + summarySize ≤ length out.old) × Plain s }
-    ensures { out.new ≡ put out.old at (summaryBytes s) }
+    requires { (at + summary_size ≤ length out.old) × Plain s }
+    ensures { out.new ≡ put out.old at (summary_bytes s) }
 {
     fields::put_u16(out, at, s.count);
     fields::put_u32(out, at + 2, f32::to_bits(s.low));
@@ -197,8 +197,8 @@ fn put_summary(out: &mut [u8], at: usize, s: Summary)
 }
 
 fn write_summaries(out: &mut [u8], all: [Summary; CHANNELS])
-    requires { (length out.old ≡ summarySize * channels) × ((c : ℕ) → c < channels → Plain (get_or all c noneDelivered)) }
-    ensures { out.new ≡ summariesBytes all }
+    requires { (length out.old ≡ summary_size * channels) × ((c : ℕ) → c < channels → Plain (get_or all c none_delivered)) }
+    ensures { out.new ≡ summaries_bytes all }
 {
     for c in 0..CHANNELS {
         let s = all[c];
@@ -208,7 +208,7 @@ fn write_summaries(out: &mut [u8], all: [Summary; CHANNELS])
 
 fn write_flags(out: &mut [u8], states: [Channel; CHANNELS])
     requires { length out.old ≡ channels }
-    ensures { out.new ≡ flagBytes states }
+    ensures { out.new ≡ flag_bytes states }
 {
     for c in 0..CHANNELS {
         let channel = states[c];
@@ -217,7 +217,7 @@ fn write_flags(out: &mut [u8], states: [Channel; CHANNELS])
 }
 
 fn total_count(all: [Summary; CHANNELS]) -> u32
-    ensures { result ≡ sum (λ c. (get_or all c noneDelivered).count) channels }
+    ensures { result ≡ sum (λ c. (get_or all c none_delivered).count) channels }
 {
     let mut n = 0u32;
     for c in 0..CHANNELS {
@@ -236,9 +236,9 @@ pub fn write_product(
     pairs: &[u32],
     earth: &[u8],
 ) -> u32
-    requires product_size_in_bounds { (productSize ≤ length buffer.old) × (length earth.now ≡ earthSize * channels) × ((c : ℕ) → c < channels → ChannelStateRange (get_or states c noChannel)) }
-    requires pairs_len { (length pairs.now ≡ pairsSize * channels) × ((c : ℕ) → c < channels → PairsRange (pairsPart pairs.now c)) }
-    ensures { (result ≡ deliveredCount (byPairs pairs.now) states earth.now) × (buffer.new ≡ productOf (byPairs pairs.now) number states earth.now ++ drop productSize buffer.old) }
+    requires product_size_in_bounds { (product_size ≤ length buffer.old) × (length earth.now ≡ earth_size * channels) × ((c : ℕ) → c < channels → ChannelStateRange (get_or states c no_channel)) }
+    requires pairs_len { (length pairs.now ≡ pairs_size * channels) × ((c : ℕ) → c < channels → PairsRange (pairs_part pairs.now c)) }
+    ensures { (result ≡ delivered_count (by_pairs pairs.now) states earth.now) × (buffer.new ≡ product_of (by_pairs pairs.now) number states earth.now ++ drop product_size buffer.old) }
 {
     fields::put_head(buffer, NUMBER, TAGS[0], SIZES[0]);
     fields::put_u32(buffer, NUMBER_AT, number);

@@ -3,80 +3,80 @@
 use Rattle.std.specs.Prelude.{ℕ, ◌<◌, ◌≡◌, Bool, true, false, List, [], ◌∷◌, ℤ, length}
 use Rattle.lists.specs.Tests.{fails}
 use Rattle.table.specs.declared.Opening.{Opening}
-use Rattle.table.specs.Opening.{verdictOf}
+use Rattle.table.specs.Opening.{verdict_of}
 use Rattle.calibrator.specs.declared.Calibrator.{Calibrator}
 use Rattle.calibrator.specs.Refusals.{Reply, delivered, refused}
 use Rattle.calibrator.specs.Feeding.{step, Sound}
 use Rattle.lines.specs.declared.Stop.{Stop}
 use Rattle.lines.specs.declared.Stop.TheVariants.{OutputUnwritten}
-use Rattle.lines.specs.Lines.{openingLine, stopLine}
-use Rattle.lines.specs.Steps.{recordFed, listedLine, calibratedLine}
+use Rattle.lines.specs.Lines.{opening_line, stop_line}
+use Rattle.lines.specs.Steps.{record_fed, listed_line, calibrated_line}
 use Rattle.programs.specs.declared.Program.{Program}
 use Rattle.programs.specs.declared.Program.TheVariants.{Listing, Calibrate}
 use Rattle.programs.specs.declared.Next.{Next}
 use Rattle.programs.specs.declared.Next.TheVariants.{Stopped}
 use Rattle.programs.specs.declared.Made.{Made}
 use Rattle.programs.specs.declared.Turned.{Turned}
-use Rattle.programs.specs.Streams.{standardOutput, standardError, linesTo}
+use Rattle.programs.specs.Streams.{standard_output, standard_error, lines_to}
 
 -- ---- what is made of a record
 
 -- its line; `calibrate` has none for an accepted one
 unfoldable pub line_of : Program → Calibrator → List ℕ → List ℕ
-line_of Listing c scan = listedLine c scan
-line_of Calibrate c scan = calibratedLine c scan
+line_of Listing c scan = listed_line c scan
+line_of Calibrate c scan = calibrated_line c scan
 
 -- the whole product of an accepted feed, and nothing of a refused one
-unfoldable pub productBy : Reply → List ℕ → List ℕ
-productBy (delivered n) buffer = buffer
-productBy (refused n) buffer = []
+unfoldable pub product_by : Reply → List ℕ → List ℕ
+product_by (delivered n) buffer = buffer
+product_by (refused n) buffer = []
 
 -- the product that is written; `listing` writes none
-unfoldable pub writtenProduct : Program → Calibrator → List ℕ → List ℕ
-writtenProduct Listing c scan = []
-writtenProduct Calibrate c scan = productBy (recordFed c scan).outcome.reply (recordFed c scan).outcome.buffer
+unfoldable pub written_product : Program → Calibrator → List ℕ → List ℕ
+written_product Listing c scan = []
+written_product Calibrate c scan = product_by (record_fed c scan).outcome.reply (record_fed c scan).outcome.buffer
 
 unfoldable pub made_of : Program → Calibrator → List ℕ → Made
 made_of program c scan = record {
-  calibrator = (recordFed c scan).calibrator;
+  calibrator = (record_fed c scan).calibrator;
   line = length (line_of program c scan);
-  product = length (writtenProduct program c scan);
+  product = length (written_product program c scan);
 }
 
 -- what the lent buffer of the product holds afterwards; `listing` leaves it as it was
-unfoldable pub productLeft : Program → Calibrator → List ℕ → List ℕ → List ℕ
-productLeft Listing c scan buffer = buffer
-productLeft Calibrate c scan buffer = (step c (record { scan = scan; buffer = buffer })).outcome.buffer
+unfoldable pub product_left : Program → Calibrator → List ℕ → List ℕ → List ℕ
+product_left Listing c scan buffer = buffer
+product_left Calibrate c scan buffer = (step c (record { scan = scan; buffer = buffer })).outcome.buffer
 
 -- ---- what comes after it
 
 -- where standard output did not take all, the program ends
-abbrev pub nextAfter : Next → (complete : Bool) → Next
-nextAfter next true = next
-nextAfter next false = Stopped OutputUnwritten
+abbrev pub next_after : Next → (complete : Bool) → Next
+next_after next true = next
+next_after next false = Stopped OutputUnwritten
 
 -- a turn with the bytes that were read and what comes after them: no bytes are no record, and nothing is fed
-unfoldable pub turnedOf : Calibrator → (scan : List ℕ) → Next → (complete : Bool) → Turned
-turnedOf c [] next complete = record { next = next; calibrator = c }
-turnedOf c (byte ∷ more) next complete = record { next = nextAfter next complete; calibrator = (recordFed c (byte ∷ more)).calibrator }
+unfoldable pub turned_of : Calibrator → (scan : List ℕ) → Next → (complete : Bool) → Turned
+turned_of c [] next complete = record { next = next; calibrator = c }
+turned_of c (byte ∷ more) next complete = record { next = next_after next complete; calibrator = (record_fed c (byte ∷ more)).calibrator }
 
 -- ---- what is written
 
 -- an opening that is a refusal, with its number
 pub record Refuses (answer : Opening) : Type 0 where
   pub number : ℕ
-  pub fails-with : verdictOf answer ≡ fails number
+  pub fails-with : verdict_of answer ≡ fails number
 
 -- a line and a product that belong together
 pub data Together (program : Program) (line product : List ℕ) : Type 0 where
   -- of a record that has bytes, under a calibrator that keeps to its ranges
-  of-record : (c : Calibrator) (scan : List ℕ) → Sound c → 0 < length scan → line ≡ line_of program c scan → product ≡ writtenProduct program c scan
+  of_record : (c : Calibrator) (scan : List ℕ) → Sound c → 0 < length scan → line ≡ line_of program c scan → product ≡ written_product program c scan
       → Together program line product
   -- of a refused table or bias file, which has no product
-  of-refusal : (answer : Opening) → Refuses answer → line ≡ openingLine (verdictOf answer) → product ≡ [] → Together program line product
+  of-refusal : (answer : Opening) → Refuses answer → line ≡ opening_line (verdict_of answer) → product ≡ [] → Together program line product
 
 -- the bytes that a program writes to a stream
 pub data Due (program : Program) (to : ℤ) (bytes : List ℕ) : Type 0 where
-  line-due : (product : List ℕ) → Together program bytes product → to ≡ linesTo program → Due program to bytes
-  product-due : (line : List ℕ) → Together program line bytes → to ≡ standardOutput → Due program to bytes
-  stop-due : (stop : Stop) → bytes ≡ stopLine stop → to ≡ standardError → Due program to bytes
+  line_due : (product : List ℕ) → Together program bytes product → to ≡ lines_to program → Due program to bytes
+  product-due : (line : List ℕ) → Together program line bytes → to ≡ standard_output → Due program to bytes
+  stop-due : (stop : Stop) → bytes ≡ stop_line stop → to ≡ standard_error → Due program to bytes

@@ -3,18 +3,18 @@ use Rattle.std.specs.Prelude.{Bool, ℤ, pos}
 use Rattle.programs.specs.declared.Program.{Program}
 use Rattle.programs.specs.declared.Program.TheVariants.{Listing, Calibrate}
 
-abbrev pub standardOutput : ℤ
-standardOutput = pos 1
+abbrev pub standard_output : ℤ
+standard_output = pos 1
 
-abbrev pub standardError : ℤ
-standardError = pos 2
+abbrev pub standard_error : ℤ
+standard_error = pos 2
 
 -- the line of a record, of a refused table or of a refused bias file
-abbrev pub linesTo : Program → ℤ
-linesTo Listing = standardOutput
-linesTo Calibrate = standardError
+abbrev pub lines_to : Program → ℤ
+lines_to Listing = standard_output
+lines_to Calibrate = standard_error
 
 -- whether standard output took all that was for it, by whether the line and the product were written
-abbrev pub outputTook : Program → (line product : Bool) → Bool
-outputTook Listing line product = line
-outputTook Calibrate line product = product
+abbrev pub output_took : Program → (line product : Bool) → Bool
+output_took Listing line product = line
+output_took Calibrate line product = product

@@ -7,11 +7,11 @@ ghost use Rattle.std.specs.Prelude.{◌≡◌};
 ghost use Rattle.io.specs.Counts.{IsPrefixLen};
 ghost use Rattle.lists.specs.Build.{put};
 ghost use Rattle.table.specs.Opening.{opening, AcceptedTable};
-ghost use Rattle.bias.specs.Opening.{biasOpening};
+ghost use Rattle.bias.specs.Opening.{bias_opening};
 ghost use Rattle.calibrator.specs.Feeding.{Sound};
 ghost use Rattle.programs.specs.declared.Program.TheVariants as programs;
-ghost use Rattle.programs.specs.Streams.{linesTo, outputTook};
-ghost use Rattle.programs.specs.Steps.{line_of, made_of, productLeft, nextAfter, Refuses, Together, Due};
+ghost use Rattle.programs.specs.Streams.{lines_to, output_took};
+ghost use Rattle.programs.specs.Steps.{line_of, made_of, product_left, next_after, Refuses, Together, Due};
 ghost use Rattle.programs.specs.Runs.{ReadTo, TurnOf, TurnIn, Ran, Unfed, UnderBias, UnderTable, UnderFiles};
 
 use bias::BIAS_SIZE;
@@ -87,7 +87,7 @@ fn calibrate(
     requires { Sound calibrator }
     ensures prefix_len { IsPrefixLen result.product product.new }
     ensures prefix_len_2 { IsPrefixLen result.line line.new }
-    ensures value { (result ≡ made_of programs.Calibrate calibrator scan.now) × (product.new ≡ productLeft programs.Calibrate calibrator scan.now product.old) × (line.new ≡ put line.old 0 (line_of programs.Calibrate calibrator scan.now)) × Sound result.calibrator }
+    ensures value { (result ≡ made_of programs.Calibrate calibrator scan.now) × (product.new ≡ product_left programs.Calibrate calibrator scan.now product.old) × (line.new ≡ put line.old 0 (line_of programs.Calibrate calibrator scan.now)) × Sound result.calibrator }
 {
     let calibrated = lines::calibrate_record(calibrator, scan, product, line);
     let after = calibrated.calibrator;
@@ -109,7 +109,7 @@ fn write_record(
     requires { Sound calibrator }
     ensures prefix_len { IsPrefixLen result.product product.new }
     ensures prefix_len_2 { IsPrefixLen result.line line.new }
-    ensures value { (result ≡ made_of program calibrator scan.now) × (product.new ≡ productLeft program calibrator scan.now product.old) × (line.new ≡ put line.old 0 (line_of program calibrator scan.now)) × Sound result.calibrator }
+    ensures value { (result ≡ made_of program calibrator scan.now) × (product.new ≡ product_left program calibrator scan.now product.old) × (line.new ≡ put line.old 0 (line_of program calibrator scan.now)) × Sound result.calibrator }
 {
     match program {
         Program::Listing => list(calibrator, scan, line),
@@ -119,7 +119,7 @@ fn write_record(
 
 // Where standard output did not take all, the program ends.
 fn next_after(next: Next, complete: bool) -> Next
-    ensures { result ≡ nextAfter next complete }
+    ensures { result ≡ next_after next complete }
 {
     if complete {
         return next;
@@ -131,7 +131,7 @@ fn next_after(next: Next, complete: bool) -> Next
 
 // Where the lines go.
 fn lines_to(program: Program) -> i32
-    ensures { result ≡ linesTo program }
+    ensures { result ≡ lines_to program }
 {
     match program {
         Program::Listing => STDOUT_FILENO,
@@ -141,7 +141,7 @@ fn lines_to(program: Program) -> i32
 
 // Whether standard output took all: products go on where a refusal cannot be written.
 fn output_took(program: Program, line: bool, product: bool) -> bool
-    ensures { result ≡ outputTook program line product }
+    ensures { result ≡ output_took program line product }
 {
     match program {
         Program::Listing => line,
@@ -294,7 +294,7 @@ fn read_file(name: &[u8], bytes: &mut [u8]) -> usize
 // A refused bias file gives its line alone, and no record is read.
 fn with_bias(program: Program, table: Table, bytes: &[u8]) -> Next
     requires { AcceptedTable table.bytes }
-    ensures { UnderBias (biasOpening bytes.now) table bytes.now result }
+    ensures { UnderBias (bias_opening bytes.now) table bytes.now result }
 {
     let opened = bias::open(bytes);
     let answer = opened.answer;

@@ -7,135 +7,135 @@ use mathlib.Core.Bool.{Bool, true, false, cond}
 use lib.Dec.{eqb}
 use lib.ListN.{length, drop, length-append}
 use Rattle.lists.specs.Tests.{Verdict, passes, fails}
-use Rattle.fields.specs.Fields.{layoutSize}
-use Rattle.lists.proofs.Tabulate.{length-tabulate, tabulate-same}
+use Rattle.fields.specs.Fields.{layout_size}
+use Rattle.lists.proofs.Tabulate.{length_tabulate, tabulate_same}
 use Rattle.lists.proofs.Cells.{cells_same}
 use Rattle.table.specs.declared.Table.{Table}
-use Rattle.table.specs.Settings.{Settings, settingsOf}
-use Rattle.instrument.specs.Instrument.{channels, shelfOf}
+use Rattle.table.specs.Settings.{Settings, settings_of}
+use Rattle.instrument.specs.Instrument.{channels, shelf_of}
 use Rattle.table.specs.Opening.{ages}
 use Rattle.acceptance.specs.declared.Scan.{Scan}
-use Rattle.record.specs.Record.{scanNumber, earthCounts, shelfTemperatures, shelfTemperature}
-use Rattle.acceptance.specs.Kept.{keptScan}
+use Rattle.record.specs.Record.{scan_number, earth_counts, shelf_temperatures, shelf_temperature}
+use Rattle.acceptance.specs.Kept.{kept_scan}
 use Rattle.window.specs.declared.Window.{Window}
 use Rattle.scene.specs.declared.Channel.{Channel}
-use Rattle.window.specs.Ages.{noScan, windowOf, windowAfter}
-use Rattle.window.specs.Means.{channelStateOf}
-use Rattle.window.proofs.AgeLaws.{ScanShape, gap-between, window-after-is-aged, means-of-scans}
+use Rattle.window.specs.Ages.{no_scan, window_of, window_after}
+use Rattle.window.specs.Means.{channel_state_of}
+use Rattle.window.proofs.AgeLaws.{ScanShape, gap_between_lem, window_after_is_aged, means_of_scans}
 use Rattle.bias.specs.declared.Bias.{Bias}
-use Rattle.product.specs.Scenes.{Deliver, byBias}
-use Rattle.product.specs.Product.{productLayout, productOf, deliveredCount}
+use Rattle.product.specs.Scenes.{Deliver, by_bias}
+use Rattle.product.specs.Product.{product_layout, product_of, delivered_count}
 use Rattle.lastscan.specs.declared.LastScan.{LastScan}
-use Rattle.lastscan.specs.LastScan.{nothingKept, keptOf}
+use Rattle.lastscan.specs.LastScan.{nothing_kept, kept_of}
 use Rattle.calibrator.specs.declared.Calibrator.{Calibrator}
 use Rattle.calibrator.specs.Refusals.{delivered}
-use Rattle.calibrator.specs.Feeding.{Feed, keptBy, fresh_of, nextWindow, channelsIn, nextChannels, stepBy, step}
-use Rattle.promise.specs.Roll.{Roll, begun, lastNumber, verdictAt, joinedBy, joined}
-use Rattle.promise.specs.Moments.{channelsAt}
-use Rattle.calibrator.proofs.Verdicts.{passes-facts}
-use Rattle.promise.proofs.RollLaws.{scanOfAge, NumbersTo, aged-roll, numbers-further}
-use Rattle.promise.proofs.SampleLaws.{means-at-is}
-use Rattle.promise.specs.Outcomes.{fedMoment, outcomeBy, outcomeAt}
+use Rattle.calibrator.specs.Feeding.{Feed, kept_by, fresh_of, next_window, channels_in, next_channels, step_by, step}
+use Rattle.promise.specs.Roll.{Roll, begun, last_number, verdict_at, joined_by, joined}
+use Rattle.promise.specs.Moments.{channels_at}
+use Rattle.calibrator.proofs.Verdicts.{passes_facts}
+use Rattle.promise.proofs.RollLaws.{scan_of_age, NumbersTo, aged_roll, numbers_further}
+use Rattle.promise.proofs.SampleLaws.{means_at_is}
+use Rattle.promise.specs.Outcomes.{fed_moment, outcome_by, outcome_at}
 
 -- ---- the calibrator after a roll
-abbrev pub scansOf : Settings → Roll → ℕ → Scan
-scansOf s roll k = scanOfAge s roll (lastNumber roll) k
+abbrev pub scans_of : Settings → Roll → ℕ → Scan
+scans_of s roll k = scan_of_age s roll (last_number roll) k
 
 abbrev pub last_of : Settings → Roll → LastScan
-last_of s [] = nothingKept
-last_of s (scan ∷ roll) = keptOf (channelsAt s (fedMoment roll scan))
+last_of s [] = nothing_kept
+last_of s (scan ∷ roll) = kept_of (channels_at s (fed_moment roll scan))
 
-abbrev pub calibratorOf : Table → Bias → Roll → Calibrator
-calibratorOf table bias roll =
-    let s = settingsOf ages table.bytes in record { table = table; bias = bias; window = windowOf (begun roll) (lastNumber roll) (scansOf s roll); last = last_of s roll }
+abbrev pub calibrator_of : Table → Bias → Roll → Calibrator
+calibrator_of table bias roll =
+    let s = settings_of ages table.bytes in record { table = table; bias = bias; window = window_of (begun roll) (last_number roll) (scans_of s roll); last = last_of s roll }
 
-pub window_same : (any : Bool) (last : ℕ) (f g : ℕ → Scan) → ((k : ℕ) → k < ages → f k ≡ g k) → windowOf any last f ≡ windowOf any last g
-unfolding windowOf
+pub window_same : (any : Bool) (last : ℕ) (f g : ℕ → Scan) → ((k : ℕ) → k < ages → f k ≡ g k) → window_of any last f ≡ window_of any last g
+unfolding window_of
 window_same any last f g e =
     rw (cells_same (λ k. (f k).warm) (λ k. (g k).warm) ages (λ k h. ap (λ (x : Scan). x.warm) (e k h)), cells_same (λ k. (f k).cold) (λ k. (g k).cold) ages (λ k h. ap (λ (x : Scan). x.cold) (e k h)), cells_same (λ k. (f k).kelvin) (λ k. (g k).kelvin) ages (λ k h. ap (λ (x : Scan). x.kelvin) (e k h)))
 
 -- ---- every scan of the roll has the shape of a scan
-pub kept-shape : (s : Settings) (scan : List ℕ) → ScanShape (keptBy s scan)
-unfolding keptScan
-kept-shape s scan = record { warm = length-tabulate _ channels; cold = length-tabulate _ channels; kelvin = simp (length-append, length-tabulate) }
+pub kept_shape : (s : Settings) (scan : List ℕ) → ScanShape (kept_by s scan)
+unfolding kept_scan
+kept_shape s scan = record { warm = length_tabulate _ channels; cold = length_tabulate _ channels; kelvin = simp (length-append, length_tabulate) }
 
-no-scan-shape : ScanShape noScan
-unfolding noScan
-no-scan-shape = record { warm = refl; cold = refl; kelvin = refl }
+no_scan_shape : ScanShape no_scan
+unfolding no_scan
+no_scan_shape = record { warm = refl; cold = refl; kelvin = refl }
 
 module _ (s : Settings) where
-  pub by-age-shape : (roll : Roll) (number k : ℕ) → ScanShape (scanOfAge s roll number k)
-  unfolding scanOfAge
-  by-age-shape [] number k = no-scan-shape
-  by-age-shape (scan ∷ roll) number k = go (eqb (scanNumber scan + k) number) (by-age-shape roll number k)
+  pub by_age_shape : (roll : Roll) (number k : ℕ) → ScanShape (scan_of_age s roll number k)
+  unfolding scan_of_age
+  by_age_shape [] number k = no_scan_shape
+  by_age_shape (scan ∷ roll) number k = go (eqb (scan_number scan + k) number) (by_age_shape roll number k)
     where
-      go : (t : Bool) → ScanShape (scanOfAge s roll number k) → ScanShape (cond t (keptBy s scan) (scanOfAge s roll number k))
-      go true older = kept-shape s scan
+      go : (t : Bool) → ScanShape (scan_of_age s roll number k) → ScanShape (cond t (kept_by s scan) (scan_of_age s roll number k))
+      go true older = kept_shape s scan
       go false older = older
 
   -- the window once a record has joined
-  window-joined : (scan : List ℕ) (roll : Roll) → NumbersTo roll (lastNumber roll) → (begun roll ≡ true → lastNumber roll < scanNumber scan)
-      → windowAfter (windowOf (begun roll) (lastNumber roll) (scansOf s roll)) (scanNumber scan) (keptBy s scan) ≡ windowOf true (scanNumber scan) (scansOf s (scan ∷ roll))
-  unfolding windowOf
-  window-joined scan roll numbers above =
-      window-after-is-aged (begun roll) (lastNumber roll) (scanNumber scan) (keptBy s scan) (scansOf s roll) (λ k. by-age-shape roll (lastNumber roll) k) (kept-shape s scan) (gap-between (begun roll) (lastNumber roll) (scanNumber scan) above).low
-      ∙ window_same true (scanNumber scan) _ _ (λ k inside. aged-roll s scan roll numbers above k inside)
+  window_joined : (scan : List ℕ) (roll : Roll) → NumbersTo roll (last_number roll) → (begun roll ≡ true → last_number roll < scan_number scan)
+      → window_after (window_of (begun roll) (last_number roll) (scans_of s roll)) (scan_number scan) (kept_by s scan) ≡ window_of true (scan_number scan) (scans_of s (scan ∷ roll))
+  unfolding window_of
+  window_joined scan roll numbers above =
+      window_after_is_aged (begun roll) (last_number roll) (scan_number scan) (kept_by s scan) (scans_of s roll) (λ k. by_age_shape roll (last_number roll) k) (kept_shape s scan) (gap_between_lem (begun roll) (last_number roll) (scan_number scan) above).low
+      ∙ window_same true (scan_number scan) _ _ (λ k inside. aged_roll s scan roll numbers above k inside)
 
   -- its channels
-  channels-joined : s.ages ≤ ages → (scan : List ℕ) (roll : Roll) → channelsIn s (windowOf true (scanNumber scan) (scansOf s (scan ∷ roll))) (shelfTemperatures scan) ≡ channelsAt s (fedMoment roll scan)
-  channels-joined few scan roll =
-      tabulate-same _ _ channels (λ c inside.
-      ap (channelStateOf s c (shelfTemperature (shelfTemperatures scan) (shelfOf c)))
-      (means-of-scans s few true (scanNumber scan) (scansOf s (scan ∷ roll)) (λ k. by-age-shape (scan ∷ roll) (scanNumber scan) k) c inside
-      ∙ sym (means-at-is s (fedMoment roll scan) c inside)))
+  channels_joined : s.ages ≤ ages → (scan : List ℕ) (roll : Roll) → channels_in s (window_of true (scan_number scan) (scans_of s (scan ∷ roll))) (shelf_temperatures scan) ≡ channels_at s (fed_moment roll scan)
+  channels_joined few scan roll =
+      tabulate_same _ _ channels (λ c inside.
+      ap (channel_state_of s c (shelf_temperature (shelf_temperatures scan) (shelf_of c)))
+      (means_of_scans s few true (scan_number scan) (scans_of s (scan ∷ roll)) (λ k. by_age_shape (scan ∷ roll) (scan_number scan) k) c inside
+      ∙ sym (means_at_is s (fed_moment roll scan) c inside)))
 
 -- ---- one feed
-pub numbers-joined : (v : Verdict) (roll : Roll) (feed : Feed) → verdictAt roll feed ≡ v → NumbersTo roll (lastNumber roll) → NumbersTo (joinedBy v roll feed) (lastNumber (joinedBy v roll feed))
-numbers-joined (fails n) roll feed e numbers = numbers
-numbers-joined passes [] feed e numbers = (omega arith, tt)
-numbers-joined passes (scan ∷ roll) feed e numbers =
-    (omega arith, numbers-further (scan ∷ roll) (omega (arith, (passes-facts true (scanNumber scan) feed.scan (length feed.buffer) e).above refl)) numbers)
+pub numbers_joined : (v : Verdict) (roll : Roll) (feed : Feed) → verdict_at roll feed ≡ v → NumbersTo roll (last_number roll) → NumbersTo (joined_by v roll feed) (last_number (joined_by v roll feed))
+numbers_joined (fails n) roll feed e numbers = numbers
+numbers_joined passes [] feed e numbers = (omega arith, tt)
+numbers_joined passes (scan ∷ roll) feed e numbers =
+    (omega arith, numbers_further (scan ∷ roll) (omega (arith, (passes_facts true (scan_number scan) feed.scan (length feed.buffer) e).above refl)) numbers)
 
 module _ (table : Table) (bias : Bias) where
-  abbrev tableSettings : Settings
-  tableSettings = settingsOf ages table.bytes
+  abbrev table_settings : Settings
+  table_settings = settings_of ages table.bytes
 
-  abbrev biasDelivery : ℕ → Deliver
-  biasDelivery = byBias bias.bytes
+  abbrev bias_delivery : ℕ → Deliver
+  bias_delivery = by_bias bias.bytes
 
-  module _ (roll : Roll) (feed : Feed) (numbers : NumbersTo roll (lastNumber roll)) where
+  module _ (roll : Roll) (feed : Feed) (numbers : NumbersTo roll (last_number roll)) where
     abbrev before : Calibrator
-    before = calibratorOf table bias roll
+    before = calibrator_of table bias roll
 
-    next-window : verdictAt roll feed ≡ passes → nextWindow before feed.scan ≡ windowOf true (scanNumber feed.scan) (scansOf tableSettings (feed.scan ∷ roll))
-    next-window e = window-joined tableSettings feed.scan roll numbers (passes-facts (begun roll) (lastNumber roll) feed.scan (length feed.buffer) e).above
+    next_window_lem : verdict_at roll feed ≡ passes → next_window before feed.scan ≡ window_of true (scan_number feed.scan) (scans_of table_settings (feed.scan ∷ roll))
+    next_window_lem e = window_joined table_settings feed.scan roll numbers (passes_facts (begun roll) (last_number roll) feed.scan (length feed.buffer) e).above
 
-    next-channels : verdictAt roll feed ≡ passes → nextChannels before feed.scan ≡ channelsAt tableSettings (fedMoment roll feed.scan)
-    next-channels e = ap (λ (w : Window). channelsIn tableSettings w (shelfTemperatures feed.scan)) (next-window e) ∙ channels-joined tableSettings (omega arith) feed.scan roll
+    next_channels_lem : verdict_at roll feed ≡ passes → next_channels before feed.scan ≡ channels_at table_settings (fed_moment roll feed.scan)
+    next_channels_lem e = ap (λ (w : Window). channels_in table_settings w (shelf_temperatures feed.scan)) (next_window_lem e) ∙ channels_joined table_settings (omega arith) feed.scan roll
 
-    calibrator-by : (v : Verdict) → verdictAt roll feed ≡ v → (stepBy v before feed).calibrator ≡ calibratorOf table bias (joinedBy v roll feed)
-    unfolding stepBy
-    calibrator-by passes e = ap₂ (λ (w : Window) (all : List Channel). record { table = table; bias = bias; window = w; last = keptOf all }) (next-window e) (next-channels e)
-    calibrator-by (fails n) e = refl
+    calibrator_by : (v : Verdict) → verdict_at roll feed ≡ v → (step_by v before feed).calibrator ≡ calibrator_of table bias (joined_by v roll feed)
+    unfolding step_by
+    calibrator_by passes e = ap₂ (λ (w : Window) (all : List Channel). record { table = table; bias = bias; window = w; last = kept_of all }) (next_window_lem e) (next_channels_lem e)
+    calibrator_by (fails n) e = refl
 
-    outcome-by : (v : Verdict) → verdictAt roll feed ≡ v → (stepBy v before feed).outcome ≡ outcomeBy tableSettings biasDelivery v roll feed
-    unfolding stepBy
-    outcome-by passes e =
+    outcome_by_lem : (v : Verdict) → verdict_at roll feed ≡ v → (step_by v before feed).outcome ≡ outcome_by table_settings bias_delivery v roll feed
+    unfolding step_by
+    outcome_by_lem passes e =
         ap (λ (all : List Channel). record {
-          reply = delivered (deliveredCount biasDelivery all (earthCounts feed.scan));
-          buffer = productOf biasDelivery (scanNumber feed.scan) all (earthCounts feed.scan) ++ drop (layoutSize productLayout) feed.buffer;
-        }) (next-channels e)
-    outcome-by (fails n) e = refl
+          reply = delivered (delivered_count bias_delivery all (earth_counts feed.scan));
+          buffer = product_of bias_delivery (scan_number feed.scan) all (earth_counts feed.scan) ++ drop (layout_size product_layout) feed.buffer;
+        }) (next_channels_lem e)
+    outcome_by_lem (fails n) e = refl
 
     -- the calibrator that is handed back is that of the roll with this feed, and the outcome is what the roll says
-    pub calibrator-after : (step before feed).calibrator ≡ calibratorOf table bias (joined roll feed)
-    unfolding windowOf
-    calibrator-after = calibrator-by (verdictAt roll feed) refl
+    pub calibrator_after_lem : (step before feed).calibrator ≡ calibrator_of table bias (joined roll feed)
+    unfolding window_of
+    calibrator_after_lem = calibrator_by (verdict_at roll feed) refl
 
-    pub outcome-after : (step before feed).outcome ≡ outcomeAt tableSettings biasDelivery roll feed
-    unfolding windowOf
-    outcome-after = outcome-by (verdictAt roll feed) refl
+    pub outcome_after_lem : (step before feed).outcome ≡ outcome_at table_settings bias_delivery roll feed
+    unfolding window_of
+    outcome_after_lem = outcome_by_lem (verdict_at roll feed) refl
 
-  pub fresh-is-empty-roll : fresh_of table bias ≡ calibratorOf table bias []
-  unfolding fresh_of scanOfAge
-  fresh-is-empty-roll = refl
+  pub fresh_is_empty_roll : fresh_of table bias ≡ calibrator_of table bias []
+  unfolding fresh_of scan_of_age
+  fresh_is_empty_roll = refl

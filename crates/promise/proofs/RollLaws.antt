@@ -9,34 +9,34 @@ use lib.Dec.{eqb, ltb}
 use borrow.Author.Tests.{eq-eqb, ne_eqb, lt-ltb, le-ltb, eqb-true, eqb-false, ltb-false}
 use Rattle.table.specs.Settings.{Settings}
 use Rattle.table.specs.Opening.{ages}
-use Rattle.record.specs.Record.{scanNumber}
-use Rattle.window.specs.Ages.{noScan, aged, gapBetween}
-use Rattle.calibrator.specs.Feeding.{keptBy}
+use Rattle.record.specs.Record.{scan_number}
+use Rattle.window.specs.Ages.{no_scan, aged, gap_between}
+use Rattle.calibrator.specs.Feeding.{kept_by}
 use Rattle.acceptance.specs.declared.Scan.{Scan}
-use Rattle.promise.specs.Roll.{Roll, begun, lastNumber}
+use Rattle.promise.specs.Roll.{Roll, begun, last_number}
 
 -- what the record with age k keeps of its accepted samples; a missing number has none
-unfoldable pub scanOfAge : Settings → Roll → ℕ → ℕ → Scan
-scanOfAge s [] number k = noScan
-scanOfAge s (scan ∷ roll) number k = cond (eqb (scanNumber scan + k) number) (keptBy s scan) (scanOfAge s roll number k)
+unfoldable pub scan_of_age : Settings → Roll → ℕ → ℕ → Scan
+scan_of_age s [] number k = no_scan
+scan_of_age s (scan ∷ roll) number k = cond (eqb (scan_number scan + k) number) (kept_by s scan) (scan_of_age s roll number k)
 
 -- every record's number is at most n
 abbrev pub NumbersTo : Roll → ℕ → Type 0
 NumbersTo [] n = Unit {0}
-NumbersTo (scan ∷ roll) n = (scanNumber scan ≤ n) × NumbersTo roll n
+NumbersTo (scan ∷ roll) n = (scan_number scan ≤ n) × NumbersTo roll n
 
-pub numbers-further : (roll : Roll) {m n : ℕ} → m ≤ n → NumbersTo roll m → NumbersTo roll n
-numbers-further [] h k = tt
-numbers-further (scan ∷ roll) h k = (omega (arith, h, k.0), numbers-further roll h k.1)
+pub numbers_further : (roll : Roll) {m n : ℕ} → m ≤ n → NumbersTo roll m → NumbersTo roll n
+numbers_further [] h k = tt
+numbers_further (scan ∷ roll) h k = (omega (arith, h, k.0), numbers_further roll h k.1)
 
 module _ (s : Settings) where
   -- no record has that age
-  age-missing : (roll : Roll) (n number k : ℕ) → NumbersTo roll n → n + k < number → scanOfAge s roll number k ≡ noScan
-  unfolding scanOfAge
-  age-missing [] n number k h l = refl
-  age-missing (scan ∷ roll) n number k h l = rw (ne_eqb (scanNumber scan + k) number (apart h.0)) (age-missing roll n number k h.1 l)
+  age_missing : (roll : Roll) (n number k : ℕ) → NumbersTo roll n → n + k < number → scan_of_age s roll number k ≡ no_scan
+  unfolding scan_of_age
+  age_missing [] n number k h l = refl
+  age_missing (scan ∷ roll) n number k h l = rw (ne_eqb (scan_number scan + k) number (apart h.0)) (age_missing roll n number k h.1 l)
     where
-      apart : scanNumber scan ≤ n → scanNumber scan + k ≡ number → ⊥
+      apart : scan_number scan ≤ n → scan_number scan + k ≡ number → ⊥
       apart below e = omega arith
 
   -- the same record, g numbers on, is g older
@@ -49,69 +49,69 @@ module _ (s : Settings) where
           eq-eqb (n + k) (last + g) (omega arith)
       go false e = ne_eqb (n + k) (last + g) (λ same. eqb-false (n + (k - g)) last e (omega arith))
 
-  older-by : (roll : Roll) (last g k : ℕ) → g ≤ k → scanOfAge s roll (last + g) k ≡ scanOfAge s roll last (k - g)
-  unfolding scanOfAge
-  older-by [] last g k h = refl
-  older-by (scan ∷ roll) last g k h = ap₂ (λ t more. cond t (keptBy s scan) more) (same_test (scanNumber scan) k last g h) (older-by roll last g k h)
+  older_by : (roll : Roll) (last g k : ℕ) → g ≤ k → scan_of_age s roll (last + g) k ≡ scan_of_age s roll last (k - g)
+  unfolding scan_of_age
+  older_by [] last g k h = refl
+  older_by (scan ∷ roll) last g k h = ap₂ (λ t more. cond t (kept_by s scan) more) (same_test (scan_number scan) k last g h) (older_by roll last g k h)
 
-  newest : (scan : List ℕ) (roll : Roll) → scanOfAge s (scan ∷ roll) (scanNumber scan) 0 ≡ keptBy s scan
-  unfolding scanOfAge
-  newest scan roll = rw (eq-eqb (scanNumber scan + 0) (scanNumber scan) (omega arith))
+  newest : (scan : List ℕ) (roll : Roll) → scan_of_age s (scan ∷ roll) (scan_number scan) 0 ≡ kept_by s scan
+  unfolding scan_of_age
+  newest scan roll = rw (eq-eqb (scan_number scan + 0) (scan_number scan) (omega arith))
 
-  not-newest : (scan : List ℕ) (roll : Roll) (k : ℕ) → scanOfAge s (scan ∷ roll) (scanNumber scan) (suc k) ≡ scanOfAge s roll (scanNumber scan) (suc k)
-  unfolding scanOfAge
-  not-newest scan roll k = rw (ne_eqb (scanNumber scan + suc k) (scanNumber scan) (λ e. omega arith))
+  not_newest : (scan : List ℕ) (roll : Roll) (k : ℕ) → scan_of_age s (scan ∷ roll) (scan_number scan) (suc k) ≡ scan_of_age s roll (scan_number scan) (suc k)
+  unfolding scan_of_age
+  not_newest scan roll k = rw (ne_eqb (scan_number scan + suc k) (scan_number scan) (λ e. omega arith))
 
   -- ---- the scans by age once a record has joined
-  module _ (scan : List ℕ) (roll : Roll) (numbers : NumbersTo roll (lastNumber roll)) where
+  module _ (scan : List ℕ) (roll : Roll) (numbers : NumbersTo roll (last_number roll)) where
     ByAge : ℕ → ℕ → Type 0
-    ByAge gap k = aged gap (keptBy s scan) (λ j. scanOfAge s roll (lastNumber roll) j) k ≡ scanOfAge s (scan ∷ roll) (scanNumber scan) k
+    ByAge gap k = aged gap (kept_by s scan) (λ j. scan_of_age s roll (last_number roll) j) k ≡ scan_of_age s (scan ∷ roll) (scan_number scan) k
 
     older : (k : ℕ) → eqb (suc k) 0 ≡ false
     older k = ne_eqb (suc k) 0 (λ e. omega arith)
 
     -- no record is that old yet
-    missing-between : (gap k : ℕ) → suc k < gap → lastNumber roll + suc k < scanNumber scan → ByAge gap (suc k)
+    missing_between : (gap k : ℕ) → suc k < gap → last_number roll + suc k < scan_number scan → ByAge gap (suc k)
     unfolding aged ByAge
-    missing-between gap k early late =
+    missing_between gap k early late =
         rw (older k, lt-ltb (suc k) gap early)
-        (sym (not-newest scan roll k ∙ age-missing roll (lastNumber roll) (scanNumber scan) (suc k) numbers late))
+        (sym (not_newest scan roll k ∙ age_missing roll (last_number roll) (scan_number scan) (suc k) numbers late))
 
     -- the record that was younger by the gap
-    found-older : (k : ℕ) → lastNumber roll < scanNumber scan → scanNumber scan - lastNumber roll ≤ suc k → ByAge (scanNumber scan - lastNumber roll) (suc k)
+    found_older : (k : ℕ) → last_number roll < scan_number scan → scan_number scan - last_number roll ≤ suc k → ByAge (scan_number scan - last_number roll) (suc k)
     unfolding aged ByAge
-    found-older k above reached =
-        let g = scanNumber scan - lastNumber roll in
-        let e : lastNumber roll + g ≡ scanNumber scan = omega arith in
+    found_older k above reached =
+        let g = scan_number scan - last_number roll in
+        let e : last_number roll + g ≡ scan_number scan = omega arith in
         rw (older k, le-ltb (suc k) g reached)
-        (sym (not-newest scan roll k ∙ ap (λ n. scanOfAge s roll n (suc k)) (sym e) ∙ older-by roll (lastNumber roll) g (suc k) reached))
+        (sym (not_newest scan roll k ∙ ap (λ n. scan_of_age s roll n (suc k)) (sym e) ∙ older_by roll (last_number roll) g (suc k) reached))
 
-    age-zero : (gap : ℕ) → ByAge gap 0
+    age_zero : (gap : ℕ) → ByAge gap 0
     unfolding aged ByAge
-    age-zero gap = sym (newest scan roll)
+    age_zero gap = sym (newest scan roll)
 
     -- by the distance of the numbers
-    near : (k : ℕ) → lastNumber roll < scanNumber scan → ByAge (scanNumber scan - lastNumber roll) (suc k)
-    near k above = go (dec_lt (suc k) (scanNumber scan - lastNumber roll))
+    near : (k : ℕ) → last_number roll < scan_number scan → ByAge (scan_number scan - last_number roll) (suc k)
+    near k above = go (dec_lt (suc k) (scan_number scan - last_number roll))
       where
-        go : Dec (suc k < scanNumber scan - lastNumber roll) → ByAge (scanNumber scan - lastNumber roll) (suc k)
-        go (yes early) = missing-between (scanNumber scan - lastNumber roll) k early (omega arith)
-        go (no late) = found-older k above (omega (arith, late))
+        go : Dec (suc k < scan_number scan - last_number roll) → ByAge (scan_number scan - last_number roll) (suc k)
+        go (yes early) = missing_between (scan_number scan - last_number roll) k early (omega arith)
+        go (no late) = found_older k above (omega (arith, late))
 
-    by-gap : (k : ℕ) → k < ages → lastNumber roll < scanNumber scan → (t : Bool) → ltb (scanNumber scan - lastNumber roll) ages ≡ t → ByAge (cond t (scanNumber scan - lastNumber roll) ages) k
-    by-gap zero inside above t e = age-zero (cond t (scanNumber scan - lastNumber roll) ages)
-    by-gap (suc k) inside above true e = near k above
-    by-gap (suc k) inside above false e = missing-between ages k inside (omega (arith, ltb-false (scanNumber scan - lastNumber roll) ages e))
+    by_gap : (k : ℕ) → k < ages → last_number roll < scan_number scan → (t : Bool) → ltb (scan_number scan - last_number roll) ages ≡ t → ByAge (cond t (scan_number scan - last_number roll) ages) k
+    by_gap zero inside above t e = age_zero (cond t (scan_number scan - last_number roll) ages)
+    by_gap (suc k) inside above true e = near k above
+    by_gap (suc k) inside above false e = missing_between ages k inside (omega (arith, ltb-false (scan_number scan - last_number roll) ages e))
 
 -- a first record has none before it
-first_alone : (s : Settings) (scan : List ℕ) (k : ℕ) → k < ages → aged ages (keptBy s scan) (λ j. scanOfAge s [] 0 j) k ≡ scanOfAge s (scan ∷ []) (scanNumber scan) k
-unfolding aged scanOfAge
+first_alone : (s : Settings) (scan : List ℕ) (k : ℕ) → k < ages → aged ages (kept_by s scan) (λ j. scan_of_age s [] 0 j) k ≡ scan_of_age s (scan ∷ []) (scan_number scan) k
+unfolding aged scan_of_age
 first_alone s scan zero inside = sym (newest s scan [])
-first_alone s scan (suc k) inside = rw (ne_eqb (suc k) 0 (λ e. omega arith), lt-ltb (suc k) ages inside) (sym (not-newest s scan [] k))
+first_alone s scan (suc k) inside = rw (ne_eqb (suc k) 0 (λ e. omega arith), lt-ltb (suc k) ages inside) (sym (not_newest s scan [] k))
 
 -- what the scans of each age are once a record has joined
-pub aged-roll : (s : Settings) (scan : List ℕ) (roll : Roll) → NumbersTo roll (lastNumber roll) → (begun roll ≡ true → lastNumber roll < scanNumber scan) → (k : ℕ) → k < ages
-    → aged (gapBetween (begun roll) (lastNumber roll) (scanNumber scan)) (keptBy s scan) (λ j. scanOfAge s roll (lastNumber roll) j) k ≡ scanOfAge s (scan ∷ roll) (scanNumber scan) k
+pub aged_roll : (s : Settings) (scan : List ℕ) (roll : Roll) → NumbersTo roll (last_number roll) → (begun roll ≡ true → last_number roll < scan_number scan) → (k : ℕ) → k < ages
+    → aged (gap_between (begun roll) (last_number roll) (scan_number scan)) (kept_by s scan) (λ j. scan_of_age s roll (last_number roll) j) k ≡ scan_of_age s (scan ∷ roll) (scan_number scan) k
 unfolding ByAge
-aged-roll s scan [] numbers above k inside = first_alone s scan k inside
-aged-roll s scan (before ∷ roll) numbers above k inside = by-gap s scan (before ∷ roll) numbers k inside (above refl) (ltb (scanNumber scan - scanNumber before) ages) refl
+aged_roll s scan [] numbers above k inside = first_alone s scan k inside
+aged_roll s scan (before ∷ roll) numbers above k inside = by_gap s scan (before ∷ roll) numbers k inside (above refl) (ltb (scan_number scan - scan_number before) ages) refl

@@ -2,55 +2,55 @@
 -- counted from 1; T is in units, before scan bias.
 use Rattle.std.specs.Prelude.{ℕ, ◌+◌, ◌-◌, ◌<◌, ◌≤◌, ◌≡◌, List, [], ◌∷◌, true, false, ℤ, pos, ◌<ℤ◌, length}
 use Rattle.lists.specs.Tests.{passes}
-use Rattle.product.specs.Product.{productSize}
+use Rattle.product.specs.Product.{product_size}
 use Rattle.table.specs.declared.Table.{Table}
-use Rattle.table.specs.Settings.{Settings, settingsOf}
+use Rattle.table.specs.Settings.{Settings, settings_of}
 use Rattle.table.specs.Opening.{ages, AcceptedTable}
 use Rattle.bias.specs.declared.Bias.{Bias}
 use Rattle.bias.specs.Opening.{AcceptedBias}
 use Rattle.scene.specs.BeforeBias.{justT, flaggedMark}
-use Rattle.lookup.specs.Lookup.{Found, foundCount, noCount, lookupVerdict, foundIf, countBehind}
+use Rattle.lookup.specs.Lookup.{Found, foundCount, noCount, lookup_verdict, found_if, count_behind}
 use Rattle.calibrator.specs.declared.Calibrator.{Calibrator}
-use Rattle.calibrator.specs.Feeding.{Feed, fresh_of, step, calibratorAfter, OfBytes, AllOfBytes}
-use Rattle.promise.specs.Roll.{Roll, verdictAt}
-use Rattle.promise.specs.Restart.{rolledBy, windowFeeds}
-use Rattle.promise.specs.Outcomes.{fedMoment}
+use Rattle.calibrator.specs.Feeding.{Feed, fresh_of, step, calibrator_after, OfBytes, AllOfBytes}
+use Rattle.promise.specs.Roll.{Roll, verdict_at}
+use Rattle.promise.specs.Restart.{rolled_by, window_feeds}
+use Rattle.promise.specs.Outcomes.{fed_moment}
 use Rattle.promise.specs.Promise.{Alike}
-use Rattle.promise.specs.SameScenes.{flagAt, sceneBeforeBias, FedChannel, fedFlag, fedScene}
+use Rattle.promise.specs.SameScenes.{flag_at, scene_before_bias, FedChannel, fed_flag, fed_scene}
 
 -- what a calibrator answers
 abbrev pub answer_of : Calibrator → (channel wanted : ℕ) → Found
-answer_of c channel wanted = countBehind c.last channel wanted
+answer_of c channel wanted = count_behind c.last channel wanted
 
 -- what the roll says: its last record with the records that stand; 12 while it is empty
-abbrev pub answerOfRoll : Settings → Roll → (channel wanted : ℕ) → Found
-answerOfRoll s [] channel wanted = foundIf (lookupVerdict channel false 0) (λ count. flaggedMark) wanted
-answerOfRoll s (scan ∷ roll) channel wanted =
-    let m = fedMoment roll scan in let c = channel - 1 in
-    foundIf (lookupVerdict channel true (flagAt s m c)) (λ count. sceneBeforeBias s m c (pos count)) wanted
+abbrev pub answer_of_roll : Settings → Roll → (channel wanted : ℕ) → Found
+answer_of_roll s [] channel wanted = found_if (lookup_verdict channel false 0) (λ count. flaggedMark) wanted
+answer_of_roll s (scan ∷ roll) channel wanted =
+    let m = fed_moment roll scan in let c = channel - 1 in
+    found_if (lookup_verdict channel true (flag_at s m c)) (λ count. scene_before_bias s m c (pos count)) wanted
 
 -- ---- for every accepted table, every accepted bias file, every list of feeds from a fresh calibrator, and every second list
 pub record CountsClaim (fresh : Calibrator) (s : Settings) (feeds others : List Feed) : Type 0 where
   -- the calibrator answers what the roll says
-  pub answers : (channel wanted : ℕ) → answer_of (calibratorAfter fresh feeds) channel wanted ≡ answerOfRoll s (rolledBy [] feeds) channel wanted
+  pub answers : (channel wanted : ℕ) → answer_of (calibrator_after fresh feeds) channel wanted ≡ answer_of_roll s (rolled_by [] feeds) channel wanted
   -- two alike lists give the same answers
   pub alike : Alike s [] [] feeds others
-      → (channel wanted : ℕ) → answer_of (calibratorAfter fresh feeds) channel wanted ≡ answer_of (calibratorAfter fresh others) channel wanted
+      → (channel wanted : ℕ) → answer_of (calibrator_after fresh feeds) channel wanted ≡ answer_of (calibrator_after fresh others) channel wanted
 
 abbrev pub CountsBehind : Type 0
 CountsBehind =
     (table : Table) → AcceptedTable table.bytes → (bias : Bias) → AcceptedBias bias.bytes → (feeds others : List Feed)
-    → CountsClaim (fresh_of table bias) (settingsOf ages table.bytes) feeds others
+    → CountsClaim (fresh_of table bias) (settings_of ages table.bytes) feeds others
 
 -- what a fresh calibrator answers that was fed a list of feeds and then one feed more
-abbrev pub answerAfter : Table → Bias → List Feed → Feed → (channel wanted : ℕ) → Found
-answerAfter table bias feeds feed = answer_of (step (calibratorAfter (fresh_of table bias) feeds) feed).calibrator
+abbrev pub answer_after : Table → Bias → List Feed → Feed → (channel wanted : ℕ) → Found
+answer_after table bias feeds feed = answer_of (step (calibrator_after (fresh_of table bias) feeds) feed).calibrator
 
 -- ---- a calibrator that is fed the accepted records of the last scan's window, and then this scan, answers the same
 abbrev pub SameAfterRestart : Type 0
 SameAfterRestart =
-    (table : Table) (bias : Bias) (before : List Feed) (feed : Feed) (buffer : List ℕ) → productSize ≤ length buffer → verdictAt (rolledBy [] before) feed ≡ passes
-    → (channel wanted : ℕ) → answerAfter table bias before feed channel wanted ≡ answerAfter table bias (windowFeeds before feed buffer) feed channel wanted
+    (table : Table) (bias : Bias) (before : List Feed) (feed : Feed) (buffer : List ℕ) → product_size ≤ length buffer → verdict_at (rolled_by [] before) feed ≡ passes
+    → (channel wanted : ℕ) → answer_after table bias before feed channel wanted ≡ answer_after table bias (window_feeds before feed buffer) feed channel wanted
 
 -- ---- a channel of feeds whose records are of bytes
 abbrev pub FedBytes : FedChannel → Type 0
@@ -59,16 +59,16 @@ FedBytes f = AllOfBytes f.before × OfBytes f.feed
 -- ---- of two delivered counts of a channel the higher has the higher T, roundings included
 abbrev pub HigherCountHigherT : Type 0
 HigherCountHigherT =
-    (f : FedChannel) → FedBytes f → (count higher : ℕ) (t u : ℤ) → count < higher → fedScene f (pos count) ≡ justT t → fedScene f (pos higher) ≡ justT u → t <ℤ u
+    (f : FedChannel) → FedBytes f → (count higher : ℕ) (t u : ℤ) → count < higher → fed_scene f (pos count) ≡ justT t → fed_scene f (pos higher) ≡ justT u → t <ℤ u
 
 -- ---- so that no second count fits: in a channel with flag 0, after its feed, the answer is a count exactly where that count is delivered with
 -- the wanted T, and none only where no count is
 pub record AnswerSays (f : FedChannel) (answer : Found) (wanted : ℕ) : Type 0 where
-  pub found : (n : ℕ) → answer ≡ foundCount n → (n ≤ 65535) × (fedScene f (pos n) ≡ justT (pos wanted))
-  pub only : (count : ℕ) → count ≤ 65535 → fedScene f (pos count) ≡ justT (pos wanted) → answer ≡ foundCount count
-  pub none : answer ≡ noCount → (count : ℕ) → count ≤ 65535 → fedScene f (pos count) ≡ justT (pos wanted) → ⊥
+  pub found : (n : ℕ) → answer ≡ foundCount n → (n ≤ 65535) × (fed_scene f (pos n) ≡ justT (pos wanted))
+  pub only : (count : ℕ) → count ≤ 65535 → fed_scene f (pos count) ≡ justT (pos wanted) → answer ≡ foundCount count
+  pub none : answer ≡ noCount → (count : ℕ) → count ≤ 65535 → fed_scene f (pos count) ≡ justT (pos wanted) → ⊥
 
 abbrev pub AnswersSay : Type 0
 AnswersSay =
-    (f : FedChannel) → FedBytes f → fedFlag f ≡ 0 → (bias : Bias) (wanted : ℕ)
-    → AnswerSays f (answerAfter (record { bytes = f.table }) bias f.before f.feed (f.channel + 1) wanted) wanted
+    (f : FedChannel) → FedBytes f → fed_flag f ≡ 0 → (bias : Bias) (wanted : ℕ)
+    → AnswerSays f (answer_after (record { bytes = f.table }) bias f.before f.feed (f.channel + 1) wanted) wanted

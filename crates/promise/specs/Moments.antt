@@ -7,131 +7,131 @@ use Rattle.integers.specs.Fractions.{Fraction, ◌/ᶠ◌, whole, Equal, Near}
 use Rattle.lists.specs.Build.{tabulate}
 use Rattle.lists.specs.Count.{count}
 use Rattle.lists.specs.Sum.{sum}
-use Rattle.fields.specs.Numbers.{u16At, u32_at}
-use Rattle.fields.specs.Fields.{valueStart}
+use Rattle.fields.specs.Numbers.{u16_at, u32_at}
+use Rattle.fields.specs.Fields.{value_start}
 use Rattle.instrument.specs.declared.Side.TheVariants.{Warm, Cold}
 use Rattle.table.specs.Settings.{Settings}
-use Rattle.instrument.specs.Instrument.{channels, positions, target_of, shelfOf}
-use Rattle.record.specs.Record.{scanNumber, earthCounts, earthPart, shelfTemperatures, shelfTemperature}
-use Rattle.nonlinearity.specs.Interpolation.{unroundedTnl, tnlOf}
+use Rattle.instrument.specs.Instrument.{channels, positions, target_of, shelf_of}
+use Rattle.record.specs.Record.{scan_number, earth_counts, earth_part, shelf_temperatures, shelf_temperature}
+use Rattle.nonlinearity.specs.Interpolation.{unrounded_tnl, tnl_of}
 use Rattle.window.specs.declared.Means.{Means}
 use Rattle.scene.specs.declared.Channel.{Channel}
-use Rattle.window.specs.Means.{Tw, Tc, D, tooFewThermometers, tooFewCounts, channelStateOf}
+use Rattle.window.specs.Means.{Tw, Tc, D, too_few_thermometers, too_few_counts, channel_state_of}
 use Rattle.scene.specs.declared.Scene.TheVariants.{Flagged, Outside, Guard}
-use Rattle.scene.specs.Scene.{bits, unitsOf}
+use Rattle.scene.specs.Scene.{bits, units_of}
 use Rattle.scene.specs.Temperature.{N, temperature}
-use Rattle.scene.specs.Unrounded.{E, unroundedTw, biasedE, meanCount, corrected}
-use Rattle.bias.specs.Bias.{biasPart, c0In, eIn}
-use Rattle.product.specs.Scenes.{Deliver, byBias}
-use Rattle.product.specs.Product.{productLayout, stretchSize, productOf}
+use Rattle.scene.specs.Unrounded.{E, unrounded_tw, biased_e, mean_count, corrected}
+use Rattle.bias.specs.Bias.{bias_part, c0_in, e_in}
+use Rattle.product.specs.Scenes.{Deliver, by_bias}
+use Rattle.product.specs.Product.{product_layout, stretch_size, product_of}
 use Rattle.promise.specs.Roll.{Roll}
-use Rattle.promise.specs.Samples.{samplesOfAge, sumsOf}
+use Rattle.promise.specs.Samples.{samples_of_age, sums_of}
 
 pub record Moment : Type 0 where
   pub standing : Roll
   pub scan : List ℕ
 
 -- the current number is this record's
-abbrev pub currentNumber : Moment → ℕ
-currentNumber m = scanNumber m.scan
+abbrev pub current_number : Moment → ℕ
+current_number m = scan_number m.scan
 
 -- ---- what channel c makes of a count, by the accepted samples of the window; and the product, with this record's earth counts
 -- and shelf temperatures
 module _ (s : Settings) (m : Moment) where
   -- the sums of channel c; the window has the standing records with ages 0..7
-  abbrev pub meansAt : ℕ → Means
-  meansAt c = sumsOf s (λ k. samplesOfAge s m.standing (currentNumber m) k) c
+  abbrev pub means_at : ℕ → Means
+  means_at c = sums_of s (λ k. samples_of_age s m.standing (current_number m) k) c
 
   -- Request W4: TNL of channel c, from this record's own shelf temperature; whole and unrounded
   abbrev pub shelfAt : ℕ → ℤ
-  shelfAt c = shelfTemperature (shelfTemperatures m.scan) (shelfOf c)
+  shelfAt c = shelf_temperature (shelf_temperatures m.scan) (shelf_of c)
 
-  abbrev pub tnlAt : ℕ → ℤ
-  tnlAt c = tnlOf (s.channel c).pair (shelfAt c)
+  abbrev pub tnl_at : ℕ → ℤ
+  tnl_at c = tnl_of (s.channel c).pair (shelfAt c)
 
-  abbrev pub unroundedTnlAt : ℕ → Fraction
-  unroundedTnlAt c = unroundedTnl (s.channel c).pair (shelfAt c)
+  abbrev pub unrounded_tnl_at : ℕ → Fraction
+  unrounded_tnl_at c = unrounded_tnl (s.channel c).pair (shelfAt c)
 
   -- D of channel c, and N and T of a count there
-  abbrev pub dAt : ℕ → ℤ
-  dAt c = D (meansAt c)
+  abbrev pub d_at : ℕ → ℤ
+  d_at c = D (means_at c)
 
   abbrev pub n_of : ℕ → ℤ → ℤ
-  n_of c count = let sums = meansAt c in N (pos sums.Ww) (pos sums.Wc) (pos sums.Ac) count
+  n_of c count = let sums = means_at c in N (pos sums.Ww) (pos sums.Wc) (pos sums.Ac) count
 
-  abbrev pub tOf : ℕ → ℤ → ℤ
-  tOf c count = let channel = s.channel c in temperature (Tc channel) (Tw (meansAt c) channel -ℤ Tc channel) (tnlAt c) (dAt c) (n_of c count)
+  abbrev pub t_of : ℕ → ℤ → ℤ
+  t_of c count = let channel = s.channel c in temperature (Tc channel) (Tw (means_at c) channel -ℤ Tc channel) (tnl_at c) (d_at c) (n_of c count)
 
-  abbrev pub channelsAt : List Channel
-  channelsAt = tabulate (λ c. channelStateOf s c (shelfAt c) (meansAt c)) channels
+  abbrev pub channels_at : List Channel
+  channels_at = tabulate (λ c. channel_state_of s c (shelfAt c) (means_at c)) channels
 
-  abbrev pub productAt : (ℕ → Deliver) → List ℕ
-  productAt deliver = productOf deliver (currentNumber m) channelsAt (earthCounts m.scan)
+  abbrev pub product_at : (ℕ → Deliver) → List ℕ
+  product_at deliver = product_of deliver (current_number m) channels_at (earth_counts m.scan)
 
 -- ---- the numbers of a scene, position i of channel c
 module _ (s : Settings) (m : Moment) (c i : ℕ) where
-  abbrev pub countAt : ℤ
-  countAt = pos (u16At (earthPart (earthCounts m.scan) c) (2 * i))
+  abbrev pub count_at : ℤ
+  count_at = pos (u16_at (earth_part (earth_counts m.scan) c) (2 * i))
 
-  abbrev pub nAt : ℤ
-  nAt = n_of s m c countAt
+  abbrev pub n_at : ℤ
+  n_at = n_of s m c count_at
 
-  abbrev pub tAt : ℤ
-  tAt = tOf s m c countAt
+  abbrev pub t_at : ℤ
+  t_at = t_of s m c count_at
 
-  abbrev pub unroundedTwAt : Fraction
-  unroundedTwAt = let sums = meansAt s m c in unroundedTw (pos sums.sumVPT) (pos sums.sumVP) (s.channel c).b
+  abbrev pub unrounded_tw_at : Fraction
+  unrounded_tw_at = let sums = means_at s m c in unrounded_tw (pos sums.sum_vPT) (pos sums.sum_vP) (s.channel c).b
 
-  abbrev pub eAt : Fraction
-  eAt = E (nAt /ᶠ dAt s m c) unroundedTwAt (whole (Tc (s.channel c))) (unroundedTnlAt s m c)
+  abbrev pub e_at : Fraction
+  e_at = E (n_at /ᶠ d_at s m c) unrounded_tw_at (whole (Tc (s.channel c))) (unrounded_tnl_at s m c)
 
   -- T by equations 25 to 29, one by one, from the mean counts, the unrounded Tw and the unrounded TNL
-  abbrev pub equationsAt : Fraction
-  equationsAt =
-      let sums = meansAt s m c in corrected (meanCount (pos sums.Aw) (pos sums.Ww)) (meanCount (pos sums.Ac) (pos sums.Wc)) unroundedTwAt (whole (Tc (s.channel c))) (unroundedTnlAt s m c) (whole countAt)
+  abbrev pub equations_at : Fraction
+  equations_at =
+      let sums = means_at s m c in corrected (mean_count (pos sums.Aw) (pos sums.Ww)) (mean_count (pos sums.Ac) (pos sums.Wc)) unrounded_tw_at (whole (Tc (s.channel c))) (unrounded_tnl_at s m c) (whole count_at)
 
   -- with scan bias: what is delivered for T, and equation 30 over E
   abbrev pub deliveredAt : (bias : List ℕ) → ℤ
-  deliveredAt bias = byBias bias c i tAt
+  deliveredAt bias = by_bias bias c i t_at
 
-  abbrev pub biasedEAt : (bias : List ℕ) → Fraction
-  biasedEAt bias = let part = biasPart bias c in biasedE (c0In part i) (eIn part i) eAt
+  abbrev pub biased_eAt : (bias : List ℕ) → Fraction
+  biased_eAt bias = let part = bias_part bias c in biased_e (c0_in part i) (e_in part i) e_at
 
   -- the three weight sums suffice, the mean warm count is above the mean cold, the scene lies from 0 to 1.25, and the guard passes
   pub record ByTheRules : Type 0 where
-    pub thermometers : tooFewThermometers s (target_of c) (meansAt s m c).sumVP ≡ false
-    pub warm : tooFewCounts s Warm (meansAt s m c).Ww ≡ false
-    pub cold : tooFewCounts s Cold (meansAt s m c).Wc ≡ false
-    pub warmAboveCold : pos 0 <ℤ dAt s m c
-    pub notBelow : pos 0 ≤ℤ nAt
-    pub notAbove : (pos 4 *ℤ nAt) ≤ℤ (pos 5 *ℤ dAt s m c)
-    pub guardLow : pos 1 ≤ℤ tAt
-    pub guardHigh : tAt ≤ℤ pos 16777215
+    pub thermometers : too_few_thermometers s (target_of c) (means_at s m c).sum_vP ≡ false
+    pub warm : too_few_counts s Warm (means_at s m c).Ww ≡ false
+    pub cold : too_few_counts s Cold (means_at s m c).Wc ≡ false
+    pub warmAboveCold : pos 0 <ℤ d_at s m c
+    pub notBelow : pos 0 ≤ℤ n_at
+    pub not_above : (pos 4 *ℤ n_at) ≤ℤ (pos 5 *ℤ d_at s m c)
+    pub guardLow : pos 1 ≤ℤ t_at
+    pub guardHigh : t_at ≤ℤ pos 16777215
 
 -- ---- a scene as the product's bytes have it: its four bytes in field 0x22
 abbrev pub word_at : List ℕ → ℕ → ℕ → ℕ
-word_at product c i = u32_at product (valueStart productLayout 2 + stretchSize * c + 4 * i)
+word_at product c i = u32_at product (value_start product_layout 2 + stretch_size * c + 4 * i)
 
 -- it is delivered if they are no mark
-abbrev pub isDelivered : ℕ → Bool
-isDelivered word = not (eqb word (bits Flagged)) && (not (eqb word (bits Outside)) && not (eqb word (bits Guard)))
+abbrev pub is_delivered : ℕ → Bool
+is_delivered word = not (eqb word (bits Flagged)) && (not (eqb word (bits Outside)) && not (eqb word (bits Guard)))
 
 -- the delivered scenes of a product, counted in its bytes
-abbrev pub deliveredIn : List ℕ → ℕ
-deliveredIn product = sum (λ c. count (λ i. isDelivered (word_at product c i)) positions) channels
+abbrev pub delivered_in : List ℕ → ℕ
+delivered_in product = sum (λ c. count (λ i. is_delivered (word_at product c i)) positions) channels
 
 -- 4096 times the f32 that the four bytes hold
-abbrev pub unitsAt : List ℕ → ℕ → ℕ → Fraction
-unitsAt product c i = unitsOf (of_bits binary32 (word_at product c i))
+abbrev pub units_at : List ℕ → ℕ → ℕ → Fraction
+units_at product c i = units_of (of_bits binary32 (word_at product c i))
 
 -- ---- what is claimed of a scene of the moment's product
 pub record SceneClaim (s : Settings) (bias : List ℕ) (m : Moment) (product : List ℕ) (c i : ℕ) : Type 0 where
   -- it is delivered exactly when the rules say
-  pub rules : isDelivered (word_at product c i) ≡ true → ByTheRules s m c i
-  pub delivers : ByTheRules s m c i → isDelivered (word_at product c i) ≡ true
+  pub rules : is_delivered (word_at product c i) ≡ true → ByTheRules s m c i
+  pub delivers : ByTheRules s m c i → is_delivered (word_at product c i) ≡ true
   -- it is then exactly the delivered temperature / 4096
-  pub exact : isDelivered (word_at product c i) ≡ true → Equal (unitsAt product c i) (whole (deliveredAt s m c i bias))
+  pub exact : is_delivered (word_at product c i) ≡ true → Equal (units_at product c i) (whole (deliveredAt s m c i bias))
   -- and at most 71/16 units from c0 + (1 + e / 65,536) E
-  pub distance : isDelivered (word_at product c i) ≡ true → Near (pos 71 /ᶠ pos 16) (unitsAt product c i) (biasedEAt s m c i bias)
+  pub distance : is_delivered (word_at product c i) ≡ true → Near (pos 71 /ᶠ pos 16) (units_at product c i) (biased_eAt s m c i bias)
   -- where E is what equations 25 to 29 give
-  pub equations : isDelivered (word_at product c i) ≡ true → Equal (equationsAt s m c i) (eAt s m c i)
+  pub equations : is_delivered (word_at product c i) ≡ true → Equal (equations_at s m c i) (e_at s m c i)

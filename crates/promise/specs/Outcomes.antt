@@ -4,24 +4,24 @@ use Rattle.std.specs.Prelude.{ℕ, List, ◌∷◌, ◌++◌, drop}
 use Rattle.lists.specs.Tests.{Verdict, passes, fails}
 use Rattle.table.specs.Settings.{Settings}
 use Rattle.product.specs.Scenes.{Deliver}
-use Rattle.product.specs.Product.{deliveredCount, productSize}
+use Rattle.product.specs.Product.{delivered_count, product_size}
 use Rattle.calibrator.specs.Refusals.{delivered, refused}
 use Rattle.calibrator.specs.Feeding.{Feed, Outcome}
-use Rattle.promise.specs.Roll.{Roll, verdictAt}
-use Rattle.promise.specs.Moments.{Moment, channelsAt, productAt}
-use Rattle.record.specs.Record.{earthCounts}
+use Rattle.promise.specs.Roll.{Roll, verdict_at}
+use Rattle.promise.specs.Moments.{Moment, channels_at, product_at}
+use Rattle.record.specs.Record.{earth_counts}
 
 -- the moment at which this record has joined the roll
-abbrev pub fedMoment : Roll → List ℕ → Moment
-fedMoment roll scan = record { standing = scan ∷ roll; scan = scan }
+abbrev pub fed_moment : Roll → List ℕ → Moment
+fed_moment roll scan = record { standing = scan ∷ roll; scan = scan }
 
 module _ (s : Settings) (deliver : ℕ → Deliver) where
-  abbrev pub writtenAt : Moment → List ℕ → Outcome
-  writtenAt m buffer = record { reply = delivered (deliveredCount deliver (channelsAt s m) (earthCounts m.scan)); buffer = productAt s m deliver ++ drop productSize buffer }
+  abbrev pub written_at : Moment → List ℕ → Outcome
+  written_at m buffer = record { reply = delivered (delivered_count deliver (channels_at s m) (earth_counts m.scan)); buffer = product_at s m deliver ++ drop product_size buffer }
 
-  abbrev pub outcomeBy : Verdict → Roll → Feed → Outcome
-  outcomeBy passes roll feed = writtenAt (fedMoment roll feed.scan) feed.buffer
-  outcomeBy (fails n) roll feed = record { reply = refused n; buffer = feed.buffer }
+  abbrev pub outcome_by : Verdict → Roll → Feed → Outcome
+  outcome_by passes roll feed = written_at (fed_moment roll feed.scan) feed.buffer
+  outcome_by (fails n) roll feed = record { reply = refused n; buffer = feed.buffer }
 
-  abbrev pub outcomeAt : Roll → Feed → Outcome
-  outcomeAt roll feed = outcomeBy (verdictAt roll feed) roll feed
+  abbrev pub outcome_at : Roll → Feed → Outcome
+  outcome_at roll feed = outcome_by (verdict_at roll feed) roll feed

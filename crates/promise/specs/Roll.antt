@@ -1,7 +1,7 @@
 -- Document 01, "Lists of feeds": a plain roll says which records count, from the records and the buffer lengths alone.
 use Rattle.std.specs.Prelude.{ℕ, List, [], ◌∷◌, Bool, true, false, length}
 use Rattle.lists.specs.Tests.{Verdict, passes, fails}
-use Rattle.record.specs.Record.{scanNumber}
+use Rattle.record.specs.Record.{scan_number}
 use Rattle.calibrator.specs.Refusals.{verdict}
 use Rattle.calibrator.specs.Feeding.{Feed}
 
@@ -14,18 +14,18 @@ begun [] = false
 begun (scan ∷ roll) = true
 
 -- the number of the roll's last record
-abbrev pub lastNumber : Roll → ℕ
-lastNumber [] = 0
-lastNumber (scan ∷ roll) = scanNumber scan
+abbrev pub last_number : Roll → ℕ
+last_number [] = 0
+last_number (scan ∷ roll) = scan_number scan
 
 -- a feed meets 4 to 7 in order, 6 against the number of the roll's last record, and never while the roll is empty
-abbrev pub verdictAt : Roll → Feed → Verdict
-verdictAt roll feed = verdict (begun roll) (lastNumber roll) feed.scan (length feed.buffer)
+abbrev pub verdict_at : Roll → Feed → Verdict
+verdict_at roll feed = verdict (begun roll) (last_number roll) feed.scan (length feed.buffer)
 
 -- if none applies, its record joins the roll's end; else the roll stays
-abbrev pub joinedBy : Verdict → Roll → Feed → Roll
-joinedBy passes roll feed = feed.scan ∷ roll
-joinedBy (fails n) roll feed = roll
+abbrev pub joined_by : Verdict → Roll → Feed → Roll
+joined_by passes roll feed = feed.scan ∷ roll
+joined_by (fails n) roll feed = roll
 
 abbrev pub joined : Roll → Feed → Roll
-joined roll feed = joinedBy (verdictAt roll feed) roll feed
+joined roll feed = joined_by (verdict_at roll feed) roll feed

@@ -5,36 +5,36 @@ use Rattle.std.specs.Prelude.{ℕ, ◌<◌, ◌≤◌, ◌≡◌, List, [], ◌�
 use Rattle.integers.specs.Fractions.{whole, Equal}
 use Rattle.lists.specs.Tests.{passes}
 use Rattle.instrument.specs.Instrument.{channels, positions, target_of}
-use Rattle.table.specs.Settings.{Settings, settingsOf}
+use Rattle.table.specs.Settings.{Settings, settings_of}
 use Rattle.table.specs.Opening.{ages, AcceptedTable}
 use Rattle.bias.specs.declared.Bias.{Bias}
 use Rattle.bias.specs.Opening.{AcceptedBias}
-use Rattle.window.specs.Means.{Tw, Tc, flagOf}
+use Rattle.window.specs.Means.{Tw, Tc, flag_of}
 use Rattle.scene.specs.declared.Scene.TheVariants.{Flagged, Outside, Guard}
 use Rattle.scene.specs.Scene.{bits}
-use Rattle.scene.specs.BeforeBias.{TOrMark, justT, flaggedMark, outsideMark, guardMark, byTests}
-use Rattle.product.specs.Scenes.{byBias}
-use Rattle.calibrator.specs.Feeding.{Feed, fresh_of, outcomeAfter}
-use Rattle.promise.specs.Roll.{verdictAt}
-use Rattle.promise.specs.Restart.{rolledBy}
-use Rattle.promise.specs.Outcomes.{fedMoment}
-use Rattle.promise.specs.Moments.{Moment, meansAt, tnlAt, dAt, n_of, tOf, countAt, word_at, isDelivered, unitsAt}
+use Rattle.scene.specs.BeforeBias.{TOrMark, justT, flaggedMark, outsideMark, guardMark, by_tests}
+use Rattle.product.specs.Scenes.{by_bias}
+use Rattle.calibrator.specs.Feeding.{Feed, fresh_of, outcome_after}
+use Rattle.promise.specs.Roll.{verdict_at}
+use Rattle.promise.specs.Restart.{rolled_by}
+use Rattle.promise.specs.Outcomes.{fed_moment}
+use Rattle.promise.specs.Moments.{Moment, means_at, tnl_at, d_at, n_of, t_of, count_at, word_at, is_delivered, units_at}
 
 -- ---- channel c of a moment
 module _ (s : Settings) (m : Moment) (c : ℕ) where
   -- its flag
-  abbrev pub flagAt : ℕ
-  flagAt = flagOf s (target_of c) (meansAt s m c)
+  abbrev pub flag_at : ℕ
+  flag_at = flag_of s (target_of c) (means_at s m c)
 
   -- what it makes of a count before scan bias (document 01, "Scenes")
-  abbrev pub sceneBeforeBias : ℤ → TOrMark
-  sceneBeforeBias count = cond (eqb flagAt 0) (byTests (n_of s m c count) (dAt s m c) (tOf s m c count)) flaggedMark
+  abbrev pub scene_before_bias : ℤ → TOrMark
+  scene_before_bias count = cond (eqb flag_at 0) (by_tests (n_of s m c count) (d_at s m c) (t_of s m c count)) flaggedMark
 
   -- Tc, Tw - Tc, TNL, D, 12 × Wc × Ww and Ac × Ww
-  abbrev pub sixNumbers : List ℤ
-  sixNumbers =
-      let channel = s.channel c in let sums = meansAt s m c in
-      Tc channel ∷ (Tw sums channel -ℤ Tc channel) ∷ tnlAt s m c ∷ dAt s m c ∷ (pos 12 *ℤ pos sums.Wc *ℤ pos sums.Ww) ∷ (pos sums.Ac *ℤ pos sums.Ww) ∷ []
+  abbrev pub six_numbers : List ℤ
+  six_numbers =
+      let channel = s.channel c in let sums = means_at s m c in
+      Tc channel ∷ (Tw sums channel -ℤ Tc channel) ∷ tnl_at s m c ∷ d_at s m c ∷ (pos 12 *ℤ pos sums.Wc *ℤ pos sums.Ww) ∷ (pos sums.Ac *ℤ pos sums.Ww) ∷ []
 
 -- ---- a channel of an accepted feed, under an accepted table, after a list of feeds from a fresh calibrator
 pub record FedChannel : Type 0 where
@@ -42,43 +42,43 @@ pub record FedChannel : Type 0 where
   pub tableAccepted : AcceptedTable table
   pub before : List Feed
   pub feed : Feed
-  pub feedAccepted : verdictAt (rolledBy [] before) feed ≡ passes
+  pub feedAccepted : verdict_at (rolled_by [] before) feed ≡ passes
   pub channel : ℕ
   pub isChannel : channel < channels
 
 module _ (f : FedChannel) where
-  abbrev pub settingsOfFed : Settings
-  settingsOfFed = settingsOf ages f.table
+  abbrev pub settings_of_fed : Settings
+  settings_of_fed = settings_of ages f.table
 
-  abbrev pub momentOfFed : Moment
-  momentOfFed = fedMoment (rolledBy [] f.before) f.feed.scan
+  abbrev pub moment_of_fed : Moment
+  moment_of_fed = fed_moment (rolled_by [] f.before) f.feed.scan
 
-  abbrev pub fedFlag : ℕ
-  fedFlag = flagAt settingsOfFed momentOfFed f.channel
+  abbrev pub fed_flag : ℕ
+  fed_flag = flag_at settings_of_fed moment_of_fed f.channel
 
-  abbrev pub fedNumbers : List ℤ
-  fedNumbers = sixNumbers settingsOfFed momentOfFed f.channel
+  abbrev pub fed_numbers : List ℤ
+  fed_numbers = six_numbers settings_of_fed moment_of_fed f.channel
 
-  abbrev pub fedScene : ℤ → TOrMark
-  fedScene = sceneBeforeBias settingsOfFed momentOfFed f.channel
+  abbrev pub fed_scene : ℤ → TOrMark
+  fed_scene = scene_before_bias settings_of_fed moment_of_fed f.channel
 
   -- of the record's own count at position i
-  abbrev pub fedSceneAt : ℕ → TOrMark
-  fedSceneAt i = fedScene (countAt settingsOfFed momentOfFed f.channel i)
+  abbrev pub fed_scene_at : ℕ → TOrMark
+  fed_scene_at i = fed_scene (count_at settings_of_fed moment_of_fed f.channel i)
 
   -- what the feed leaves in its buffer, under a bias file
-  abbrev pub fedBuffer : Bias → List ℕ
-  fedBuffer bias = (outcomeAfter (fresh_of (record { bytes = f.table }) bias) f.before f.feed).buffer
+  abbrev pub fed_buffer : Bias → List ℕ
+  fed_buffer bias = (outcome_after (fresh_of (record { bytes = f.table }) bias) f.before f.feed).buffer
 
 -- ---- the law: of two such channels with flag 0 that agree in the six numbers, every count has the same T or the same mark
 abbrev pub SameScenes : Type 0
 SameScenes =
-    (one other : FedChannel) → fedFlag one ≡ 0 → fedFlag other ≡ 0 → fedNumbers one ≡ fedNumbers other
-    → (count : ℕ) → count ≤ 65535 → fedScene one (pos count) ≡ fedScene other (pos count)
+    (one other : FedChannel) → fed_flag one ≡ 0 → fed_flag other ≡ 0 → fed_numbers one ≡ fed_numbers other
+    → (count : ℕ) → count ≤ 65535 → fed_scene one (pos count) ≡ fed_scene other (pos count)
 
 -- ---- and they are the scenes of the products: position i shows what scan bias makes of T, or the mark, of the record's count there
 abbrev pub Shows : (product bias : List ℕ) (c i : ℕ) → TOrMark → Type 0
-Shows product bias c i (justT t) = (isDelivered (word_at product c i) ≡ true) × Equal (unitsAt product c i) (whole (byBias bias c i t))
+Shows product bias c i (justT t) = (is_delivered (word_at product c i) ≡ true) × Equal (units_at product c i) (whole (by_bias bias c i t))
 Shows product bias c i flaggedMark = word_at product c i ≡ bits Flagged
 Shows product bias c i outsideMark = word_at product c i ≡ bits Outside
 Shows product bias c i guardMark = word_at product c i ≡ bits Guard
@@ -86,4 +86,4 @@ Shows product bias c i guardMark = word_at product c i ≡ bits Guard
 abbrev pub ScenesShown : Type 0
 ScenesShown =
     (f : FedChannel) (bias : Bias) → AcceptedBias bias.bytes → (i : ℕ) → i < positions
-    → Shows (fedBuffer f bias) bias.bytes f.channel i (fedSceneAt f i)
+    → Shows (fed_buffer f bias) bias.bytes f.channel i (fed_scene_at f i)

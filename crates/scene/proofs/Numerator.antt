@@ -10,37 +10,37 @@ use lib.Signed.{lt_z}
 use mir.Syntax.{w64}
 use mir.Val.{SFits, to_z, of_z}
 use Rattle.integers.specs.Rounding.{floor}
-use Rattle.integers.proofs.Machine.{bounded-fits, reads-back, natural-reads-back, floor-fits}
+use Rattle.integers.proofs.Machine.{bounded_fits, reads_back, natural_reads_back, floor_fits}
 use Rattle.scene.specs.declared.Constants.{Constants}
 use Rattle.scene.specs.declared.Scale.{Scale}
 use Rattle.scene.specs.Scene.{numerator}
 use Rattle.scene.specs.Ranges.{ConstantsRange}
 use Rattle.scene.specs.Steps.{scale_of}
-use Rattle.scene.proofs.Ranges.{slope-bounded, base-bounded, slope-count-bounded, numerator-bounded, five-d-bounded}
-use Rattle.scene.proofs.Bracket.{top-test}
+use Rattle.scene.proofs.Ranges.{slope_bounded, base_bounded, slope_count_bounded, numerator_bounded, five_d_bounded}
+use Rattle.scene.proofs.Bracket.{top_test}
 
 module _ {k : Constants} {count : ℕ} (h : ConstantsRange k) (c : count ≤ 65535) where
-  pub slope-count-is : to_z w64 (of_z w64 k.slope) *ℤ to_z w64 count ≡ k.slope *ℤ pos count
-  slope-count-is = rw (reads-back (bounded-fits (slope-bounded h) (lit< tt)), natural-reads-back count (omega arith))
+  pub slope_count_is : to_z w64 (of_z w64 k.slope) *ℤ to_z w64 count ≡ k.slope *ℤ pos count
+  slope_count_is = rw (reads_back (bounded_fits (slope_bounded h) (lit< tt)), natural_reads_back count (omega arith))
 
-  pub slope-count-fits : SFits w64 (k.slope *ℤ pos count)
-  slope-count-fits = bounded-fits (slope-count-bounded h c) (lit< tt)
+  pub slope_count_fits : SFits w64 (k.slope *ℤ pos count)
+  slope_count_fits = bounded_fits (slope_count_bounded h c) (lit< tt)
 
-  pub n-is : to_z w64 (of_z w64 (to_z w64 (of_z w64 k.slope) *ℤ to_z w64 count)) -ℤ to_z w64 (of_z w64 k.base) ≡ numerator k count
-  n-is = rw (slope-count-is, reads-back slope-count-fits, reads-back (bounded-fits (base-bounded h) (lit< tt)))
+  pub n_is : to_z w64 (of_z w64 (to_z w64 (of_z w64 k.slope) *ℤ to_z w64 count)) -ℤ to_z w64 (of_z w64 k.base) ≡ numerator k count
+  n_is = rw (slope_count_is, reads_back slope_count_fits, reads_back (bounded_fits (base_bounded h) (lit< tt)))
 
-  pub n-fits : SFits w64 (numerator k count)
-  n-fits = bounded-fits (numerator-bounded h c) (lit< tt)
+  pub n_fits : SFits w64 (numerator k count)
+  n_fits = bounded_fits (numerator_bounded h c) (lit< tt)
 
-  top-fits : SFits w64 (floor (pos 5 *ℤ k.d) (pos 4))
-  top-fits = floor-fits (pos 4) (bounded-fits (five-d-bounded h) (lit< tt))
+  top_fits : SFits w64 (floor (pos 5 *ℤ k.d) (pos 4))
+  top_fits = floor_fits (pos 4) (bounded_fits (five_d_bounded h) (lit< tt))
 
   -- as it stands after the subtraction
-  abbrev pub formedN : ℤ
-  formedN = to_z w64 (of_z w64 (to_z w64 (of_z w64 (to_z w64 (of_z w64 k.slope) *ℤ to_z w64 count)) -ℤ to_z w64 (of_z w64 k.base)))
+  abbrev pub formed_n : ℤ
+  formed_n = to_z w64 (of_z w64 (to_z w64 (of_z w64 (to_z w64 (of_z w64 k.slope) *ℤ to_z w64 count)) -ℤ to_z w64 (of_z w64 k.base)))
 
-  pub above-test : (scale : Scale) → scale ≡ scale_of k → (b : Bool) → lt_z (to_z w64 (of_z w64 scale.top)) formedN ≡ b
+  pub above_test : (scale : Scale) → scale ≡ scale_of k → (b : Bool) → lt_z (to_z w64 (of_z w64 scale.top)) formed_n ≡ b
       → lt_z (pos 5 *ℤ k.d) (pos 4 *ℤ numerator k count) ≡ b
-  above-test scale is b e =
+  above_test scale is b e =
       let top : scale.top ≡ floor (pos 5 *ℤ k.d) (pos 4) = ap (λ (s : Scale). s.top) is in
-      top-test k.d (numerator k count) b (rw (top, reads-back top-fits, n-is, reads-back n-fits) at e)
+      top_test k.d (numerator k count) b (rw (top, reads_back top_fits, n_is, reads_back n_fits) at e)

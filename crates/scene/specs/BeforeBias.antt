@@ -1,7 +1,7 @@
 -- Document 01, "Scenes": a scene before scan bias.
 use Rattle.std.specs.Prelude.{ℕ, cond, ℤ}
 use Rattle.scene.specs.declared.Constants.{Constants}
-use Rattle.scene.specs.Temperature.{outside, temperature, guardFails}
+use Rattle.scene.specs.Temperature.{outside, temperature, guard_fails}
 use Rattle.scene.specs.Scene.{numerator}
 
 -- T, in units, or a mark
@@ -12,9 +12,9 @@ pub data TOrMark : Type 0 where
   guardMark : TOrMark
 
 -- by its tests, in a channel with flag 0
-abbrev pub byTests : (N D T : ℤ) → TOrMark
-byTests n d t = cond (outside n d) outsideMark (cond (guardFails t) guardMark (justT t))
+abbrev pub by_tests : (N D T : ℤ) → TOrMark
+by_tests n d t = cond (outside n d) outsideMark (cond (guard_fails t) guardMark (justT t))
 
 -- of a count
-abbrev pub beforeBias : Constants → ℕ → TOrMark
-beforeBias k count = let n = numerator k count in byTests n k.d (temperature k.tc k.rise k.tnl k.d n)
+abbrev pub before_bias : Constants → ℕ → TOrMark
+before_bias k count = let n = numerator k count in by_tests n k.d (temperature k.tc k.rise k.tnl k.d n)

@@ -5,7 +5,7 @@ use Rattle.scene.specs.declared.Constants.{Constants}
 
 -- what the constants of a channel with flag 0 under an accepted table keep to
 pub record ConstantsRange (k : Constants) : Type 0 where
-  pub tc-low : pos 11166 ≤ℤ k.tc
+  pub tc_low : pos 11166 ≤ℤ k.tc
   pub tc-high : k.tc ≤ℤ pos 43934
   pub rise-low : pos 825032 ≤ℤ k.rise
   pub rise-high : k.rise ≤ℤ pos 1357512

@@ -6,9 +6,9 @@ use Rattle.integers.specs.Fractions.{Fraction, ◌/ᶠ◌}
 use Rattle.scene.specs.declared.Scene.{Scene}
 use Rattle.scene.specs.declared.Scene.TheVariants.{Kelvin, Flagged, Outside, Guard}
 use Rattle.scene.specs.declared.Constants.{Constants}
-use Rattle.scene.specs.Temperature.{outside, temperature, guardFails}
+use Rattle.scene.specs.Temperature.{outside, temperature, guard_fails}
 
--- the f32 nearest to t / 4096, which for t from 1 to 16,777,215 is t / 4096 itself (law `kelvin-exact`)
+-- the f32 nearest to t / 4096, which for t from 1 to 16,777,215 is t / 4096 itself (law `kelvin_exact`)
 unfoldable pub kelvin : ℕ → Float
 unfolding round
 kelvin t = round binary32 false t 4096
@@ -26,10 +26,10 @@ bits s = to_bits binary32 (value s)
 
 -- 4096 times a float, with its sign and its fraction: a unit is 1/4096 K. A NaN or an infinity has no value: its denominator is 0, which
 -- nothing is near to.
-abbrev pub unitsOf : Float → Fraction
-unitsOf nan = pos 0 /ᶠ pos 0
-unitsOf (inf negative) = pos 0 /ᶠ pos 0
-unitsOf (fin negative m e) = cond negative (neg_ℤ (pos (m * up e * 4096))) (pos (m * up e * 4096)) /ᶠ pos (down e)
+abbrev pub units_of : Float → Fraction
+units_of nan = pos 0 /ᶠ pos 0
+units_of (inf negative) = pos 0 /ᶠ pos 0
+units_of (fin negative m e) = cond negative (neg_ℤ (pos (m * up e * 4096))) (pos (m * up e * 4096)) /ᶠ pos (down e)
 
 -- ---- the scene of a count in a channel with flag 0. Before scan bias a scene needs of its channel Tc, rise = Tw - Tc, TNL, D,
 -- slope = 12 × Wc × Ww and base = Ac × Ww alone: N = slope × C - base
@@ -41,12 +41,12 @@ unfoldable pub scene_of : (deliver : ℤ → ℤ) → Constants → ℕ → Scen
 unfolding kelvin temperature
 scene_of deliver k count =
     let n = numerator k count in let t = temperature k.tc k.rise k.tnl k.d n in
-    cond (outside n k.d) Outside (cond (guardFails t) Guard (Kelvin (kelvin (nat_abs (deliver t)))))
+    cond (outside n k.d) Outside (cond (guard_fails t) Guard (Kelvin (kelvin (nat_abs (deliver t)))))
 
 -- without scan bias
 abbrev pub unbiased : ℤ → ℤ
 unbiased t = t
 
 -- a flagged channel has no constants; nothing reads these
-abbrev pub noConstants : Constants
-noConstants = record { tc = pos 0; rise = pos 0; tnl = pos 0; d = pos 0; slope = pos 0; base = pos 0 }
+abbrev pub no_constants : Constants
+no_constants = record { tc = pos 0; rise = pos 0; tnl = pos 0; d = pos 0; slope = pos 0; base = pos 0 }

@@ -19,25 +19,25 @@ pub record Bracket (n d : ℤ) (w : ℕ) : Type 0 where
   pub high : (pos 4294967296 *ℤ n) ≤ℤ ((pos w +ℤ pos 33) *ℤ d)
 
 -- a rest of 2^16 that 33 more would fill, or one of 2^32 beyond the edge
-abbrev pub unsureOf : (x linear edge : ℕ) → Bool
-unsureOf x linear edge = ltb 65501 (x % 65536) || ltb edge (linear % 4294967296)
+abbrev pub unsure_of : (x linear edge : ℕ) → Bool
+unsure_of x linear edge = ltb 65501 (x % 65536) || ltb edge (linear % 4294967296)
 
 -- ---- the scan bias of a position as two numbers: the factor 65,536 + e and the offset 65,536 (c0 + 32,768) + 32,767, which has
 -- one less than the half of the rounding
-abbrev pub eOf : ℕ → ℤ
-eOf factor = pos factor -ℤ pos 65536
+abbrev pub e_of : ℕ → ℤ
+e_of factor = pos factor -ℤ pos 65536
 
-abbrev pub c0Of : ℕ → ℤ
-c0Of offset = pos (offset / 65536) -ℤ pos 32768
+abbrev pub c0_of : ℕ → ℤ
+c0_of offset = pos (offset / 65536) -ℤ pos 32768
 
 pub record BiasNumbers (factor offset : ℕ) : Type 0 where
-  pub e : Bounded (eOf factor) (pos 32768)
-  pub c0 : Bounded (c0Of offset) (pos 4096)
+  pub e : Bounded (e_of factor) (pos 32768)
+  pub c0 : Bounded (c0_of offset) (pos 4096)
   pub below_half : offset % 65536 ≡ 32767
 
 -- r(X(65,536 - X) × 4 TNL, 2^32), where the curve is 4 TNL
-abbrev pub bendOf : (X curve : ℤ) → ℤ
-bendOf x curve = r (x *ℤ (pos 65536 -ℤ x) *ℤ curve) (pos 4294967296)
+abbrev pub bend_of : (X curve : ℤ) → ℤ
+bend_of x curve = r (x *ℤ (pos 65536 -ℤ x) *ℤ curve) (pos 4294967296)
 
 -- T of a count; where N is negative a number below every wanted T, and where 4N exceeds 5D one above every wanted T
 unfoldable pub placed : Constants → ℕ → ℤ

@@ -21,8 +21,8 @@ temperature tc rise tnl d n =
     tc +ℤ r (n *ℤ rise) d +ℤ r (pos 4 *ℤ X n d *ℤ (pos 65536 -ℤ X n d) *ℤ tnl) (pos 4294967296)
 
 -- the guard fails where T is below 1 or above 16,777,215
-abbrev pub guardFails : ℤ → Bool
-guardFails t = lt_z t (pos 1) || lt_z (pos 16777215) t
+abbrev pub guard_fails : ℤ → Bool
+guard_fails t = lt_z t (pos 1) || lt_z (pos 16777215) t
 
 -- Request W1, scan bias (equation 30): the delivered temperature is c0 + r((65,536 + e) × T, 65,536)
 unfoldable pub biased : (c0 e T : ℤ) → ℤ

@@ -3,9 +3,9 @@ ghost use Rattle.std.specs.Prelude.{◌≡◌, not, T, pos, nat_abs, ◌+ℤ◌,
 ghost use Rattle.std.specs.Float.Ieee.{is_nan};
 ghost use Rattle.integers.specs.Bounds.{Bounded};
 ghost use Rattle.scene.specs.Temperature.{temperature, biased};
-ghost use Rattle.scene.specs.Scene.{kelvin, value, bits, scene_of, noConstants};
+ghost use Rattle.scene.specs.Scene.{kelvin, value, bits, scene_of, no_constants};
 ghost use Rattle.scene.specs.Ranges.{ConstantsRange};
-ghost use Rattle.scene.specs.Steps.{scale_of, Bracket, unsureOf, c0Of, eOf, BiasNumbers, bendOf, placed};
+ghost use Rattle.scene.specs.Steps.{scale_of, Bracket, unsure_of, c0_of, e_of, BiasNumbers, bend_of, placed};
 
 use integers::{floor_div, round_natural, round_small};
 
@@ -38,7 +38,7 @@ pub struct Channel {
 
 // A flagged channel has no constants.
 pub fn no_constants() -> Constants
-    ensures { result ≡ noConstants }
+    ensures { result ≡ no_constants }
 {
     Constants {
         tc: 0,
@@ -94,7 +94,7 @@ fn low_end(k: Constants, inverse: u64, n: i64) -> u64
 // Whether a half may lie in the bracket, of X or of the linear part. Both come with all but the least part of a half added, so that their
 // whole part is the nearest whole number, and their rest says how far the next half is.
 fn unsure(x: u64, linear: u64, edge: u32) -> bool
-    ensures { result ≡ unsureOf x linear edge }
+    ensures { result ≡ unsure_of x linear edge }
 {
     if 65_501 < x % 65_536 {
         return true;
@@ -106,7 +106,7 @@ fn unsure(x: u64, linear: u64, edge: u32) -> bool
 // even, so that the even neighbour stays the even one.
 fn raised_bend(x: i64, curve: i64) -> i64
     requires { Bounded x (pos 81920) × Bounded curve (pos 32768) }
-    ensures { result ≡ bendOf x curve +ℤ pos 1048576 }
+    ensures { result ≡ bend_of x curve +ℤ pos 1048576 }
 {
     let raised = x * (65_536 - x) * curve + 4_503_599_627_370_496;
     round_natural(raised as u64, 2_147_483_648) as i64
@@ -115,7 +115,7 @@ fn raised_bend(x: i64, curve: i64) -> i64
 // T, in units, of X and the linear part.
 fn units_of(start: i64, curve: i64, x: i64, linear: i64) -> i64
     requires { Bounded start (pos 1037410) × Bounded curve (pos 32768) × Bounded x (pos 81920) × Bounded linear (pos 1696890) }
-    ensures { result ≡ start +ℤ linear +ℤ (bendOf x curve +ℤ pos 1048576) }
+    ensures { result ≡ start +ℤ linear +ℤ (bend_of x curve +ℤ pos 1048576) }
 {
     start + linear + raised_bend(x, curve)
 }
@@ -153,7 +153,7 @@ fn units(k: Constants, scale: Scale, n: i64) -> i64
 // and one less than the half of the rounding.
 fn biased_units(t: i64, factor: u32, offset: u32) -> i32
     requires { (pos 11166 ≤ℤ t) × (t ≤ℤ pos 1832984) × BiasNumbers factor offset }
-    ensures { result ≡ biased (c0Of offset) (eOf factor) t }
+    ensures { result ≡ biased (c0_of offset) (e_of factor) t }
 {
     let product = factor as u64 * t as u64;
     ((product + offset as u64 + product / 65_536 % 2) / 65_536) as i32 - 32_768
@@ -172,7 +172,7 @@ fn kelvin_of(t: i32) -> f32
 // 1,832,984.
 pub fn scene_of(k: Constants, scale: Scale, factor: u32, offset: u32, count: u16) -> Scene
     requires { ConstantsRange k × (scale ≡ scale_of k) × BiasNumbers factor offset }
-    ensures { result ≡ scene_of (biased (c0Of offset) (eOf factor)) k count }
+    ensures { result ≡ scene_of (biased (c0_of offset) (e_of factor)) k count }
 {
     let n = k.slope * count as i64 - k.base;
     if n < 0 {

@@ -9,13 +9,13 @@ use mathlib.Core.Logic.{◌⊎◌, inl, inr, ⊎_elim}
 use lib.Dec.{eqb, ltb, leb}
 use lib.ListN.{length, get_or, get_or-eq_default}
 use borrow.Author.Tests.{eqb-true, leb-true, le-leb, lt-ltb, eq-eqb}
-use Rattle.lists.proofs.Every.{every-when-each, each-of-every, each-of-all}
+use Rattle.lists.proofs.Every.{every_when_each, each_of_every, each_of_all}
 use Rattle.instrument.specs.Instrument.{channels, thermometers}
-use Rattle.thermometer.specs.Reading.{fromTo}
-use Rattle.acceptance.specs.Kept.{mostKept, leastKelvin, mostKelvin}
+use Rattle.thermometer.specs.Reading.{from_to}
+use Rattle.acceptance.specs.Kept.{most_kept, least_kelvin, most_kelvin}
 use Rattle.window.specs.declared.Window.{Window}
 use Rattle.window.specs.Ranges.{WindowRange}
-use Rattle.state.specs.State.{agesReached, numbersInside, windowInside}
+use Rattle.state.specs.State.{ages_reached, numbers_inside, window_inside}
 
 -- 0, or from low to high
 abbrev pub NoneOr : ℕ → ℕ → ℕ → Type 0
@@ -25,86 +25,86 @@ module _ (reached low high : ℕ) (numbers : List ℕ) where
   abbrev number : ℕ → ℕ
   number i = get_or numbers i 0
 
-  abbrev holdsAt : ℕ → Bool
-  holdsAt i = eqb (number i) 0 || (ltb i reached && fromTo low high (number i))
+  abbrev holds_at_lem : ℕ → Bool
+  holds_at_lem i = eqb (number i) 0 || (ltb i reached && from_to low high (number i))
 
   -- ---- from the test
-  range_at : (i : ℕ) (none within : Bool) → eqb (number i) 0 ≡ none → ltb i reached ≡ within → holdsAt i ≡ true → NoneOr low high (number i)
+  range_at : (i : ℕ) (none within : Bool) → eqb (number i) 0 ≡ none → ltb i reached ≡ within → holds_at_lem i ≡ true → NoneOr low high (number i)
   range_at i true within none there holds = inl (eqb-true (number i) 0 none)
   range_at i false within none there holds =
-      let later : (eqb (number i) 0 || (ltb i reached && fromTo low high (number i))) ≡ (ltb i reached && fromTo low high (number i)) = rw none in
-      let ends = (and-eq-true_iff (leb low (number i)) (leb (number i) high)).0 ((and-eq-true_iff (ltb i reached) (fromTo low high (number i))).0 (sym later ∙ holds)).1 in
+      let later : (eqb (number i) 0 || (ltb i reached && from_to low high (number i))) ≡ (ltb i reached && from_to low high (number i)) = rw none in
+      let ends = (and-eq-true_iff (leb low (number i)) (leb (number i) high)).0 ((and-eq-true_iff (ltb i reached) (from_to low high (number i))).0 (sym later ∙ holds)).1 in
       inr (leb-true low (number i) ends.0, leb-true (number i) high ends.1)
 
-  pub each-in-range : numbersInside reached low high numbers ≡ true → (i : ℕ) → NoneOr low high (number i)
-  unfolding numbersInside
-  each-in-range all i = by_place (dec_lt i (length numbers))
+  pub each_in_range : numbers_inside reached low high numbers ≡ true → (i : ℕ) → NoneOr low high (number i)
+  unfolding numbers_inside
+  each_in_range all i = by_place (dec_lt i (length numbers))
     where
       by_place : Dec (i < length numbers) → NoneOr low high (number i)
-      by_place (yes inside) = range_at i (eqb (number i) 0) (ltb i reached) refl refl (each-of-every holdsAt (length numbers) i all inside)
+      by_place (yes inside) = range_at i (eqb (number i) 0) (ltb i reached) refl refl (each_of_every holds_at_lem (length numbers) i all inside)
       by_place (no outside) = inl (get_or-eq_default numbers 0 {n = i} (omega arith))
 
   -- ---- to the test
-  holds_at : (i : ℕ) → NoneOr low high (number i) → (reached ≤ i → number i ≡ 0) → holdsAt i ≡ true
+  holds_at : (i : ℕ) → NoneOr low high (number i) → (reached ≤ i → number i ≡ 0) → holds_at_lem i ≡ true
   holds_at i range past = by_place (dec_lt i reached)
     where
-      none-holds : number i ≡ 0 → holdsAt i ≡ true
+      none-holds : number i ≡ 0 → holds_at_lem i ≡ true
       none-holds none = rw (eq-eqb (number i) 0 none)
 
-      or-true : (b : Bool) → (b || true) ≡ true
-      or-true true = refl
-      or-true false = refl
+      or_true : (b : Bool) → (b || true) ≡ true
+      or_true true = refl
+      or_true false = refl
 
-      by_place : Dec (i < reached) → holdsAt i ≡ true
+      by_place : Dec (i < reached) → holds_at_lem i ≡ true
       by_place (no behind) = none-holds (past (omega arith))
       by_place (yes inside) =
           ⊎_elim none-holds
-          (λ between. rw (lt-ltb i reached inside, le-leb low (number i) between.0, le-leb (number i) high between.1) (or-true (eqb (number i) 0)))
+          (λ between. rw (lt-ltb i reached inside, le-leb low (number i) between.0, le-leb (number i) high between.1) (or_true (eqb (number i) 0)))
           range
 
-  pub inside-when-each : ((i : ℕ) → NoneOr low high (number i)) → ((i : ℕ) → reached ≤ i → number i ≡ 0) → numbersInside reached low high numbers ≡ true
-  unfolding numbersInside
-  inside-when-each ranges past = every-when-each holdsAt (length numbers) (λ i below. holds_at i (ranges i) (past i))
+  pub inside_when_each : ((i : ℕ) → NoneOr low high (number i)) → ((i : ℕ) → reached ≤ i → number i ≡ 0) → numbers_inside reached low high numbers ≡ true
+  unfolding numbers_inside
+  inside_when_each ranges past = every_when_each holds_at_lem (length numbers) (λ i below. holds_at i (ranges i) (past i))
 
 -- ---- a whole window
 
 at_most : {most x : ℕ} → NoneOr 1 most x → x ≤ most
 at_most = ⊎_elim (λ none. omega (arith, none)) (λ between. between.1)
 
-none-or-at-most : {most : ℕ} (x : ℕ) → x ≤ most → NoneOr 1 most x
-none-or-at-most zero within = inl refl
-none-or-at-most (suc x) within = inr (omega arith, within)
+none_or_at_most : {most : ℕ} (x : ℕ) → x ≤ most → NoneOr 1 most x
+none_or_at_most zero within = inl refl
+none_or_at_most (suc x) within = inr (omega arith, within)
 
-pub window-in-range : {w : Window} → windowInside w ≡ true → WindowRange w
-unfolding windowInside
-window-in-range {w} inside =
-    let reached = agesReached w.any w.last in
+pub window_in_range : {w : Window} → window_inside w ≡ true → WindowRange w
+unfolding window_inside
+window_in_range {w} inside =
+    let reached = ages_reached w.any w.last in
     let counts = channels * reached in
     let kelvins = thermometers * reached in
-    let tests = (w.any || eqb w.last 0) ∷ numbersInside counts 1 mostKept w.warm ∷ numbersInside counts 1 mostKept w.cold ∷ numbersInside kelvins leastKelvin mostKelvin w.kelvin ∷ [] in
+    let tests = (w.any || eqb w.last 0) ∷ numbers_inside counts 1 most_kept w.warm ∷ numbers_inside counts 1 most_kept w.cold ∷ numbers_inside kelvins least_kelvin most_kelvin w.kelvin ∷ [] in
     record {
-      warm = λ i. at_most (each-in-range counts 1 mostKept w.warm (each-of-all tests inside 1) i);
-      cold = λ i. at_most (each-in-range counts 1 mostKept w.cold (each-of-all tests inside 2) i);
-      kelvin = each-in-range kelvins leastKelvin mostKelvin w.kelvin (each-of-all tests inside 3);
+      warm = λ i. at_most (each_in_range counts 1 most_kept w.warm (each_of_all tests inside 1) i);
+      cold = λ i. at_most (each_in_range counts 1 most_kept w.cold (each_of_all tests inside 2) i);
+      kelvin = each_in_range kelvins least_kelvin most_kelvin w.kelvin (each_of_all tests inside 3);
     }
 
 -- a number stands only at an age that an accepted scan can have
 pub record ReachedOnly (w : Window) : Type 0 where
   pub last : (w.any || eqb w.last 0) ≡ true
-  pub warm : (i : ℕ) → channels * agesReached w.any w.last ≤ i → get_or w.warm i 0 ≡ 0
-  pub cold : (i : ℕ) → channels * agesReached w.any w.last ≤ i → get_or w.cold i 0 ≡ 0
-  pub kelvin : (i : ℕ) → thermometers * agesReached w.any w.last ≤ i → get_or w.kelvin i 0 ≡ 0
+  pub warm : (i : ℕ) → channels * ages_reached w.any w.last ≤ i → get_or w.warm i 0 ≡ 0
+  pub cold : (i : ℕ) → channels * ages_reached w.any w.last ≤ i → get_or w.cold i 0 ≡ 0
+  pub kelvin : (i : ℕ) → thermometers * ages_reached w.any w.last ≤ i → get_or w.kelvin i 0 ≡ 0
 
-all-four : {a b c d : Bool} → a ≡ true → b ≡ true → c ≡ true → d ≡ true → (a && (b && (c && (d && true)))) ≡ true
-all-four first second third fourth = rw (first, second, third, fourth)
+all_four : {a b c d : Bool} → a ≡ true → b ≡ true → c ≡ true → d ≡ true → (a && (b && (c && (d && true)))) ≡ true
+all_four first second third fourth = rw (first, second, third, fourth)
 
-pub window-is-inside : {w : Window} → WindowRange w → ReachedOnly w → windowInside w ≡ true
-unfolding windowInside
-window-is-inside {w} range only =
-    let reached = agesReached w.any w.last in
+pub window_is_inside : {w : Window} → WindowRange w → ReachedOnly w → window_inside w ≡ true
+unfolding window_inside
+window_is_inside {w} range only =
+    let reached = ages_reached w.any w.last in
     let counts = channels * reached in
     let kelvins = thermometers * reached in
-    all-four only.last
-    (inside-when-each counts 1 mostKept w.warm (λ i. none-or-at-most _ (range.warm i)) only.warm)
-    (inside-when-each counts 1 mostKept w.cold (λ i. none-or-at-most _ (range.cold i)) only.cold)
-    (inside-when-each kelvins leastKelvin mostKelvin w.kelvin range.kelvin only.kelvin)
+    all_four only.last
+    (inside_when_each counts 1 most_kept w.warm (λ i. none_or_at_most _ (range.warm i)) only.warm)
+    (inside_when_each counts 1 most_kept w.cold (λ i. none_or_at_most _ (range.cold i)) only.cold)
+    (inside_when_each kelvins least_kelvin most_kelvin w.kelvin range.kelvin only.kelvin)

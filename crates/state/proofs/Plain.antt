@@ -9,45 +9,45 @@ use lib.Dec.{eqb}
 use lib.ListN.{length, get_or}
 use borrow.Author.Tests.{ne_eqb, lt-leb}
 use Rattle.lists.specs.Build.{put}
-use Rattle.lists.proofs.Put.{getD-in-put}
-use Rattle.fields.specs.Numbers.{u32_at, u32Bytes}
-use Rattle.fields.specs.Fields.{layoutIsRight}
-use Rattle.fields.proofs.FieldBytes.{u32-that-stands}
-use Rattle.state.specs.State.{stateLayout, frontIsRight, isState}
-use Rattle.state.proofs.StateLaws.{and-fails, wrong-front-is-no-state}
+use Rattle.lists.proofs.Put.{get_d_in_put}
+use Rattle.fields.specs.Numbers.{u32_at, u32_bytes}
+use Rattle.fields.specs.Fields.{layout_is_right}
+use Rattle.fields.proofs.FieldBytes.{u32_that_stands}
+use Rattle.state.specs.State.{state_layout, front_is_right, is_state}
+use Rattle.state.proofs.StateLaws.{and_fails, wrong_front_is_no_state}
 
 module _ (bytes : List ℕ) where
   -- `SNDR` in ASCII stands at place 3
-  pub other-magic-is-no-state : (u32_at bytes 3 ≡ 0x534E4452 → ⊥) → isState bytes ≡ false
-  unfolding frontIsRight
-  other-magic-is-no-state other =
-      wrong-front-is-no-state bytes (and-fails (layoutIsRight bytes 0 stateLayout) (rw (ne_eqb (u32_at bytes 3) 0x534E4452 other)))
+  pub other_magic_is_no_state : (u32_at bytes 3 ≡ 0x534E4452 → ⊥) → is_state bytes ≡ false
+  unfolding front_is_right
+  other_magic_is_no_state other =
+      wrong_front_is_no_state bytes (and_fails (layout_is_right bytes 0 state_layout) (rw (ne_eqb (u32_at bytes 3) 0x534E4452 other)))
 
   -- the version, at place 7, is 6
-  pub other-version-is-no-state : (u32_at bytes 7 ≡ 6 → ⊥) → isState bytes ≡ false
-  unfolding frontIsRight
-  other-version-is-no-state other =
-      wrong-front-is-no-state bytes
-      (and-fails (layoutIsRight bytes 0 stateLayout) (and-fails (eqb (u32_at bytes 3) 0x534E4452) (rw (ne_eqb (u32_at bytes 7) 6 other))))
+  pub other_version_is_no_state : (u32_at bytes 7 ≡ 6 → ⊥) → is_state bytes ≡ false
+  unfolding front_is_right
+  other_version_is_no_state other =
+      wrong_front_is_no_state bytes
+      (and_fails (layout_is_right bytes 0 state_layout) (and_fails (eqb (u32_at bytes 3) 0x534E4452) (rw (ne_eqb (u32_at bytes 7) 6 other))))
 
   -- whether a scan was accepted, at place 1,421, is 0 or 1
-  pub other-byte-is-no-state : 1 < get_or bytes 1421 0 → isState bytes ≡ false
-  unfolding frontIsRight
-  other-byte-is-no-state above =
-      wrong-front-is-no-state bytes
-      (and-fails (layoutIsRight bytes 0 stateLayout) (and-fails (eqb (u32_at bytes 3) 0x534E4452) (and-fails (eqb (u32_at bytes 7) 6) (rw (lt-leb (get_or bytes 1421 0) 1 above)))))
+  pub other_byte_is_no_state : 1 < get_or bytes 1421 0 → is_state bytes ≡ false
+  unfolding front_is_right
+  other_byte_is_no_state above =
+      wrong_front_is_no_state bytes
+      (and_fails (layout_is_right bytes 0 state_layout) (and_fails (eqb (u32_at bytes 3) 0x534E4452) (and_fails (eqb (u32_at bytes 7) 6) (rw (lt-leb (get_or bytes 1421 0) 1 above)))))
 
 -- a number that is written in four bytes is read there
-written-is-read : (bytes : List ℕ) (at n : ℕ) → at ≤ length bytes → u32_at (put bytes at (u32Bytes n)) at ≡ n
-written-is-read bytes at n inside =
-    u32-that-stands (put bytes at (u32Bytes n)) at n
+written_is_read : (bytes : List ℕ) (at n : ℕ) → at ≤ length bytes → u32_at (put bytes at (u32_bytes n)) at ≡ n
+written_is_read bytes at n inside =
+    u32_that_stands (put bytes at (u32_bytes n)) at n
     (record {
       each = λ i d below.
           let behind : at + i - at ≡ i = omega arith in
-          getD-in-put bytes (u32Bytes n) at (at + i) d (omega arith) (omega arith) inside ∙ ap (λ (k : ℕ). get_or (u32Bytes n) k d) behind;
+          get_d_in_put bytes (u32_bytes n) at (at + i) d (omega arith) (omega arith) inside ∙ ap (λ (k : ℕ). get_or (u32_bytes n) k d) behind;
     })
 
 -- so a state in which another version is written is none
-pub state-of-another-version-is-none : (state : List ℕ) → 12576 ≤ length state → (n : ℕ) → (n ≡ 6 → ⊥) → isState (put state 7 (u32Bytes n)) ≡ false
-state-of-another-version-is-none state long n other =
-    other-version-is-no-state (put state 7 (u32Bytes n)) (λ same. other (sym (written-is-read state 7 n (omega arith)) ∙ same))
+pub state_of_another_version_is_none : (state : List ℕ) → 12576 ≤ length state → (n : ℕ) → (n ≡ 6 → ⊥) → is_state (put state 7 (u32_bytes n)) ≡ false
+state_of_another_version_is_none state long n other =
+    other_version_is_no_state (put state 7 (u32_bytes n)) (λ same. other (sym (written_is_read state 7 n (omega arith)) ∙ same))

@@ -7,107 +7,107 @@ use mathlib.Core.Bool.{Bool, true, false, not, ◌&&◌, and-true}
 use lib.Dec.{eqb, leb, lit<}
 use lib.ListN.{length, get_or, drop}
 use borrow.Author.Tests.{lt-leb, le-leb, leb-true, ne_eqb, eqb-true}
-use Rattle.lists.specs.Tests.{Verdict, passes, fails, ◌when◌, firstThatApplies, number_of, and_then}
-use Rattle.lists.proofs.Elements.{each-of-drop, each-of-take}
-use Rattle.lists.proofs.Every.{each-of-all}
-use Rattle.lists.proofs.Tabulate.{length-tabulate}
-use Rattle.lists.proofs.Tests.{passes-is-no-failure}
-use Rattle.fields.specs.Fields.{Field, layoutSize, layoutIsRight}
-use Rattle.table.specs.Settings.{tableLayout, settingsOf}
-use Rattle.table.specs.Ranges.{valuesInside}
-use Rattle.table.specs.Opening.{ages, openingBy, opening}
-use Rattle.bias.specs.Bias.{biasLayout, biasSize}
-use Rattle.bias.specs.Opening.{biasInside, biasOpening, bothOpening}
-use Rattle.lastscan.specs.Numbers.{lastNumbers, lastInside}
-use Rattle.lastscan.proofs.NumberLaws.{inside-in-range}
+use Rattle.lists.specs.Tests.{Verdict, passes, fails, ◌when◌, first_that_applies, number_of, and_then}
+use Rattle.lists.proofs.Elements.{each_of_drop, each_of_take}
+use Rattle.lists.proofs.Every.{each_of_all}
+use Rattle.lists.proofs.Tabulate.{length_tabulate}
+use Rattle.lists.proofs.Tests.{passes_is_no_failure}
+use Rattle.fields.specs.Fields.{Field, layout_size, layout_is_right}
+use Rattle.table.specs.Settings.{table_layout, settings_of}
+use Rattle.table.specs.Ranges.{values_inside}
+use Rattle.table.specs.Opening.{ages, opening_by, opening}
+use Rattle.bias.specs.Bias.{bias_layout, bias_size}
+use Rattle.bias.specs.Opening.{bias_inside, bias_opening, both_opening}
+use Rattle.lastscan.specs.Numbers.{last_numbers, last_inside}
+use Rattle.lastscan.proofs.NumberLaws.{inside_in_range}
 use Rattle.calibrator.specs.Feeding.{Sound}
-use Rattle.state.specs.State.{stateSize, at, numbersAt, tableIn, biasIn, windowIn, lastNumbersIn, calibratorIn, windowInside, frontIsRight, isState}
-use Rattle.state.proofs.InsideLaws.{window-in-range}
+use Rattle.state.specs.State.{state_size, at, numbers_at, table_in, bias_in, window_in, last_numbers_in, calibrator_in, window_inside, front_is_right, is_state}
+use Rattle.state.proofs.InsideLaws.{window_in_range}
 
 -- ---- by the tests
 
-pub and-fails : (a : Bool) {b : Bool} → b ≡ false → (a && b) ≡ false
-and-fails true wrong = wrong
-and-fails false wrong = refl
+pub and_fails : (a : Bool) {b : Bool} → b ≡ false → (a && b) ≡ false
+and_fails true wrong = wrong
+and_fails false wrong = refl
 
 module _ (state : List ℕ) where
   abbrev opened : Verdict
-  opened = bothOpening (tableIn state) (biasIn state)
+  opened = both_opening (table_in state) (bias_in state)
 
-  abbrev lastTest : Bool
-  lastTest = lastInside (windowIn state).any (lastNumbersIn state)
+  abbrev last_test : Bool
+  last_test = last_inside (window_in state).any (last_numbers_in state)
 
-  pub short-is-no-state : length state < stateSize → isState state ≡ false
-  unfolding isState
-  short-is-no-state short = rw (lt-leb stateSize (length state) short)
+  pub short_is_no_state : length state < state_size → is_state state ≡ false
+  unfolding is_state
+  short_is_no_state short = rw (lt-leb state_size (length state) short)
 
-  pub wrong-front-is-no-state : frontIsRight state ≡ false → isState state ≡ false
-  unfolding isState
-  wrong-front-is-no-state wrong = and-fails (leb stateSize (length state)) (rw wrong)
+  pub wrong_front_is_no_state : front_is_right state ≡ false → is_state state ≡ false
+  unfolding is_state
+  wrong_front_is_no_state wrong = and_fails (leb state_size (length state)) (rw wrong)
 
-  pub refused-is-no-state : {n : ℕ} → n ≡ number_of opened → (n ≡ 0 → ⊥) → isState state ≡ false
-  unfolding isState
-  refused-is-no-state is some =
-      and-fails (leb stateSize (length state)) (and-fails (frontIsRight state) (rw (ne_eqb (number_of opened) 0 (λ none. some (is ∙ none)))))
+  pub refused_is_no_state : {n : ℕ} → n ≡ number_of opened → (n ≡ 0 → ⊥) → is_state state ≡ false
+  unfolding is_state
+  refused_is_no_state is some =
+      and_fails (leb state_size (length state)) (and_fails (front_is_right state) (rw (ne_eqb (number_of opened) 0 (λ none. some (is ∙ none)))))
 
   -- where the tests before hold, the values decide
-  pub state-by-values : stateSize ≤ length state → frontIsRight state ≡ true → opened ≡ passes → isState state ≡ (windowInside (windowIn state) && lastTest)
-  unfolding isState
-  state-by-values long right passed = rw (le-leb stateSize (length state) long, right, passed, and-true lastTest)
+  pub state_by_values : state_size ≤ length state → front_is_right state ≡ true → opened ≡ passes → is_state state ≡ (window_inside (window_in state) && last_test)
+  unfolding is_state
+  state_by_values long right passed = rw (le-leb state_size (length state) long, right, passed, and-true last_test)
 
 -- ---- what a state holds
 
 -- no refusal of an opening has the number 0
-no-refusal-at-zero : (long right inside : Bool) → let verdict = firstThatApplies ((1 when not long) ∷ (2 when not right) ∷ (3 when not inside) ∷ []) in
+no_refusal_at_zero : (long right inside : Bool) → let verdict = first_that_applies ((1 when not long) ∷ (2 when not right) ∷ (3 when not inside) ∷ []) in
     number_of verdict ≡ 0 → verdict ≡ passes
-no-refusal-at-zero true true true zero = refl
-no-refusal-at-zero true true false zero = absurd (omega (arith, zero))
-no-refusal-at-zero true false inside zero = absurd (omega (arith, zero))
-no-refusal-at-zero false right inside zero = absurd (omega (arith, zero))
+no_refusal_at_zero true true true zero = refl
+no_refusal_at_zero true true false zero = absurd (omega (arith, zero))
+no_refusal_at_zero true false inside zero = absurd (omega (arith, zero))
+no_refusal_at_zero false right inside zero = absurd (omega (arith, zero))
 
-opening-passed : (layout : List Field) (inside : Bool) (bytes : List ℕ) → number_of (openingBy layout inside bytes) ≡ 0 → openingBy layout inside bytes ≡ passes
-opening-passed layout inside bytes = no-refusal-at-zero (eqb (length bytes) (layoutSize layout)) (layoutIsRight bytes 0 layout) inside
+opening_passed : (layout : List Field) (inside : Bool) (bytes : List ℕ) → number_of (opening_by layout inside bytes) ≡ 0 → opening_by layout inside bytes ≡ passes
+opening_passed layout inside bytes = no_refusal_at_zero (eqb (length bytes) (layout_size layout)) (layout_is_right bytes 0 layout) inside
 
-table-passed : (table : List ℕ) → number_of (opening table) ≡ 0 → opening table ≡ passes
+table_passed : (table : List ℕ) → number_of (opening table) ≡ 0 → opening table ≡ passes
 unfolding opening
-table-passed table = opening-passed (tableLayout ages) (valuesInside (settingsOf ages table)) table
+table_passed table = opening_passed (table_layout ages) (values_inside (settings_of ages table)) table
 
-bias-passed : (bias : List ℕ) → number_of (biasOpening bias) ≡ 0 → biasOpening bias ≡ passes
-unfolding biasOpening
-bias-passed bias = opening-passed biasLayout (biasInside bias) bias
+bias_passed : (bias : List ℕ) → number_of (bias_opening bias) ≡ 0 → bias_opening bias ≡ passes
+unfolding bias_opening
+bias_passed bias = opening_passed bias_layout (bias_inside bias) bias
 
-both-passed : (table bias : List ℕ) → number_of (bothOpening table bias) ≡ 0 → (opening table ≡ passes) × (biasOpening bias ≡ passes)
-both-passed table bias = by-table (opening table) refl
+both_passed : (table bias : List ℕ) → number_of (both_opening table bias) ≡ 0 → (opening table ≡ passes) × (bias_opening bias ≡ passes)
+both_passed table bias = by_table (opening table) refl
   where
-    by-table : (v : Verdict) → opening table ≡ v → number_of (and_then v (biasOpening bias)) ≡ 0 → (opening table ≡ passes) × (biasOpening bias ≡ passes)
-    by-table passes known zero = (known, bias-passed bias zero)
-    by-table (fails n) known zero = absurd (passes-is-no-failure n (sym (table-passed table (ap number_of known ∙ zero)) ∙ known))
+    by_table : (v : Verdict) → opening table ≡ v → number_of (and_then v (bias_opening bias)) ≡ 0 → (opening table ≡ passes) × (bias_opening bias ≡ passes)
+    by_table passes known zero = (known, bias_passed bias zero)
+    by_table (fails n) known zero = absurd (passes_is_no_failure n (sym (table_passed table (ap number_of known ∙ zero)) ∙ known))
 
 -- what is known of bytes that are a state: what `last_in` asks, and what a feed does
 pub record IsStateSays (state : List ℕ) : Type 0 where
-  pub long : stateSize ≤ length state
-  pub inside : lastInside (windowIn state).any (lastNumbersIn state) ≡ true
-  pub sound : Sound (calibratorIn state)
+  pub long : state_size ≤ length state
+  pub inside : last_inside (window_in state).any (last_numbers_in state) ≡ true
+  pub sound : Sound (calibrator_in state)
 
 module _ (state : List ℕ) where
-  pub length-last-numbers : length (lastNumbersIn state) ≡ lastNumbers
-  unfolding numbersAt
-  length-last-numbers = length-tabulate _ lastNumbers
+  pub length_last_numbers : length (last_numbers_in state) ≡ last_numbers
+  unfolding numbers_at
+  length_last_numbers = length_tabulate _ last_numbers
 
-  pub is-state-says : ((k : ℕ) → get_or state k 0 < 256) → isState state ≡ true → IsStateSays state
-  unfolding isState
-  is-state-says bytes holds =
-      let tests = leb stateSize (length state) ∷ frontIsRight state ∷ eqb (number_of (opened state)) 0 ∷ windowInside (windowIn state) ∷ lastTest state ∷ [] in
-      let each = each-of-all tests holds in
-      let passed = both-passed (tableIn state) (biasIn state) (eqb-true (number_of (opened state)) 0 (each 2)) in
+  pub is_state_says : ((k : ℕ) → get_or state k 0 < 256) → is_state state ≡ true → IsStateSays state
+  unfolding is_state
+  is_state_says bytes holds =
+      let tests = leb state_size (length state) ∷ front_is_right state ∷ eqb (number_of (opened state)) 0 ∷ window_inside (window_in state) ∷ last_test state ∷ [] in
+      let each = each_of_all tests holds in
+      let passed = both_passed (table_in state) (bias_in state) (eqb-true (number_of (opened state)) 0 (each 2)) in
       let Byte : ℕ → Type 0 = λ n. n < 256 in
       record {
-        long = leb-true stateSize (length state) (each 0);
+        long = leb-true state_size (length state) (each 0);
         inside = each 4;
         sound = record {
           table = record { accepted = passed.0 };
-          bias = record { accepted = passed.1; bytes = each-of-take 0 Byte (lit< tt) biasSize (drop (at 6) state) (each-of-drop 0 Byte (lit< tt) (at 6) state bytes) };
-          window = window-in-range (each 3);
-          last = inside-in-range (windowIn state).any (lastNumbersIn state) length-last-numbers (each 4);
+          bias = record { accepted = passed.1; bytes = each_of_take 0 Byte (lit< tt) bias_size (drop (at 6) state) (each_of_drop 0 Byte (lit< tt) (at 6) state bytes) };
+          window = window_in_range (each 3);
+          last = inside_in_range (window_in state).any (last_numbers_in state) length_last_numbers (each 4);
         };
       }

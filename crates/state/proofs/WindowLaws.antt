@@ -14,110 +14,110 @@ use Rattle.instrument.specs.Instrument.{channels, thermometers}
 use Rattle.table.specs.Opening.{ages}
 use Rattle.acceptance.specs.declared.Scan.{Scan}
 use Rattle.window.specs.declared.Window.{Window}
-use Rattle.window.specs.Ages.{emptyWindow, gapBetween, gap_of, movedAt, shifted, windowAfter}
-use Rattle.window.proofs.AgeLaws.{shifted-length, shifted-element, ScanShape, empty-window-is, getD-zeros}
-use Rattle.state.specs.State.{countsKept, kelvinsKept, agesReached}
+use Rattle.window.specs.Ages.{empty_window, gap_between, gap_of, moved_at, shifted, window_after}
+use Rattle.window.proofs.AgeLaws.{shifted_length, shifted_element, ScanShape, empty_window_is, get_d_zeros}
+use Rattle.state.specs.State.{counts_kept, kelvins_kept, ages_reached}
 use Rattle.state.proofs.InsideLaws.{ReachedOnly}
 
 pub record Shaped (w : Window) : Type 0 where
-  pub warm : length w.warm ≡ countsKept
-  pub cold : length w.cold ≡ countsKept
-  pub kelvin : length w.kelvin ≡ kelvinsKept
+  pub warm : length w.warm ≡ counts_kept
+  pub cold : length w.cold ≡ counts_kept
+  pub kelvin : length w.kelvin ≡ kelvins_kept
 
 -- ---- the empty window
 
-pub empty-is-shaped : Shaped emptyWindow
-empty-is-shaped = rw empty-window-is record { warm = refl; cold = refl; kelvin = refl }
+pub empty_is_shaped : Shaped empty_window
+empty_is_shaped = rw empty_window_is record { warm = refl; cold = refl; kelvin = refl }
 
-pub empty-reached-only : ReachedOnly emptyWindow
-empty-reached-only =
-    rw empty-window-is
-    record { last = refl; warm = λ i past. getD-zeros countsKept i; cold = λ i past. getD-zeros countsKept i; kelvin = λ i past. getD-zeros kelvinsKept i }
+pub empty_reached_only : ReachedOnly empty_window
+empty_reached_only =
+    rw empty_window_is
+    record { last = refl; warm = λ i past. get_d_zeros counts_kept i; cold = λ i past. get_d_zeros counts_kept i; kelvin = λ i past. get_d_zeros kelvins_kept i }
 
 -- ---- after an accepted scan
 
-pub reached-at-most : (any : Bool) (last : ℕ) → agesReached any last ≤ ages
-reached-at-most false last = omega arith
-reached-at-most true last = by_place (dec_lt last ages)
+pub reached_at_most : (any : Bool) (last : ℕ) → ages_reached any last ≤ ages
+reached_at_most false last = omega arith
+reached_at_most true last = by_place (dec_lt last ages)
   where
-    by_place : Dec (last < ages) → agesReached true last ≤ ages
+    by_place : Dec (last < ages) → ages_reached true last ≤ ages
     by_place (yes early) = rw (lt-ltb last ages early) (omega arith)
     by_place (no late) = rw (le-ltb last ages (omega arith)) (omega arith)
 
 -- the ages that are reached move on with the number: by the gap, or all are reached, or the gap leaves none
 pub data Moved (before gap after : ℕ) : Type 0 where
-  by-gap : before + gap ≡ after → Moved before gap after
+  by_gap : before + gap ≡ after → Moved before gap after
   all-reached : after ≡ ages → Moved before gap after
   none_left : gap ≡ ages → Moved before gap after
 
-reached-moves : (any : Bool) (last number : ℕ) → (any ≡ true → last < number) → Moved (agesReached any last) (gapBetween any last number) (agesReached true number)
-reached-moves false last number above = none_left refl
-reached-moves true last number above = by-places (dec_lt number ages) (dec_lt (number - last) ages)
+reached_moves : (any : Bool) (last number : ℕ) → (any ≡ true → last < number) → Moved (ages_reached any last) (gap_between any last number) (ages_reached true number)
+reached_moves false last number above = none_left refl
+reached_moves true last number above = by_places (dec_lt number ages) (dec_lt (number - last) ages)
   where
-    by-places : Dec (number < ages) → Dec (number - last < ages) → Moved (agesReached true last) (gapBetween true last number) (agesReached true number)
-    by-places (no late) near = all-reached (rw (le-ltb number ages (omega arith)))
-    by-places (yes early) (no far) = none_left (rw (le-ltb (number - last) ages (omega arith)))
-    by-places (yes early) (yes near) =
+    by_places : Dec (number < ages) → Dec (number - last < ages) → Moved (ages_reached true last) (gap_between true last number) (ages_reached true number)
+    by_places (no late) near = all-reached (rw (le-ltb number ages (omega arith)))
+    by_places (yes early) (no far) = none_left (rw (le-ltb (number - last) ages (omega arith)))
+    by_places (yes early) (yes near) =
         let less : last < number = above refl in
         let low : last < ages = omega arith in
-        by-gap (rw (lt-ltb number ages early, lt-ltb (number - last) ages near, lt-ltb last ages low) (omega arith))
+        by_gap (rw (lt-ltb number ages early, lt-ltb (number - last) ages near, lt-ltb last ages low) (omega arith))
 
 -- one of the window's lists, in rows of n
 module _ (n before gap after : ℕ) (row old : List ℕ) (wide : length row ≡ n) (long : length old ≡ n * ages) (one : 1 ≤ after)
     (only : (i : ℕ) → n * before ≤ i → get_or old i 0 ≡ 0) where
   module _ (i : ℕ) (past : n * after ≤ i) where
-    behind-row : length row ≤ i
-    behind-row = omega (arith, mul-le-mul_left n one)
+    behind_row : length row ≤ i
+    behind_row = omega (arith, mul-le-mul_left n one)
 
     -- an old number that the shift brings to place i
-    old-is-none : Moved before gap after → n * gap ≤ i → i < n * ages → get_or old (i - n * gap) 0 ≡ 0
-    old-is-none (by-gap sum) start inside = only (i - n * gap) (omega (arith, mul-add n before gap, ap (λ (k : ℕ). n * k) sum))
-    old-is-none (all-reached all) start inside = absurd (omega (arith, ap (λ (k : ℕ). n * k) all))
-    old-is-none (none_left all) start inside = absurd (omega (arith, ap (λ (k : ℕ). n * k) all))
+    old_is_none : Moved before gap after → n * gap ≤ i → i < n * ages → get_or old (i - n * gap) 0 ≡ 0
+    old_is_none (by_gap sum) start inside = only (i - n * gap) (omega (arith, mul-add n before gap, ap (λ (k : ℕ). n * k) sum))
+    old_is_none (all-reached all) start inside = absurd (omega (arith, ap (λ (k : ℕ). n * k) all))
+    old_is_none (none_left all) start inside = absurd (omega (arith, ap (λ (k : ℕ). n * k) all))
 
-    moved-is-none : Moved before gap after → i < n * ages → movedAt old row (n * gap) i ≡ 0
-    moved-is-none moved inside = by-start (dec_lt i (n * gap))
+    moved_is_none : Moved before gap after → i < n * ages → moved_at old row (n * gap) i ≡ 0
+    moved_is_none moved inside = by-start (dec_lt i (n * gap))
       where
-        by-start : Dec (i < n * gap) → movedAt old row (n * gap) i ≡ 0
-        by-start (yes missing) = rw (le-ltb i (length row) behind-row, lt-ltb i (n * gap) missing)
-        by-start (no start) = rw (le-ltb i (length row) behind-row, le-ltb i (n * gap) (omega arith)) (old-is-none moved (omega arith) inside)
+        by-start : Dec (i < n * gap) → moved_at old row (n * gap) i ≡ 0
+        by-start (yes missing) = rw (le-ltb i (length row) behind_row, lt-ltb i (n * gap) missing)
+        by-start (no start) = rw (le-ltb i (length row) behind_row, le-ltb i (n * gap) (omega arith)) (old_is_none moved (omega arith) inside)
 
-    pub shifted-is-none : Moved before gap after → get_or (shifted gap row old) i 0 ≡ 0
-    shifted-is-none moved = by_end (dec_lt i (length old))
+    pub shifted_is_none : Moved before gap after → get_or (shifted gap row old) i 0 ≡ 0
+    shifted_is_none moved = by_end (dec_lt i (length old))
       where
         by_end : Dec (i < length old) → get_or (shifted gap row old) i 0 ≡ 0
         by_end (yes inside) =
-            shifted-element gap row old i inside
-            ∙ ap (λ (k : ℕ). movedAt old row (k * gap) i) wide
-            ∙ moved-is-none moved (omega arith)
-        by_end (no outside) = get_or-eq_default (shifted gap row old) 0 {n = i} (omega (arith, shifted-length gap row old))
+            shifted_element gap row old i inside
+            ∙ ap (λ (k : ℕ). moved_at old row (k * gap) i) wide
+            ∙ moved_is_none moved (omega arith)
+        by_end (no outside) = get_or-eq_default (shifted gap row old) 0 {n = i} (omega (arith, shifted_length gap row old))
 
 module _ {w : Window} {scan : Scan} (number : ℕ) (shaped : Shaped w) (shape : ScanShape scan) where
-  pub next-is-shaped : Shaped (windowAfter w number scan)
-  unfolding windowAfter
-  next-is-shaped = record {
-    warm = shifted-length (gap_of w number) scan.warm w.warm ∙ shaped.warm;
-    cold = shifted-length (gap_of w number) scan.cold w.cold ∙ shaped.cold;
-    kelvin = shifted-length (gap_of w number) scan.kelvin w.kelvin ∙ shaped.kelvin;
+  pub next_is_shaped : Shaped (window_after w number scan)
+  unfolding window_after
+  next_is_shaped = record {
+    warm = shifted_length (gap_of w number) scan.warm w.warm ∙ shaped.warm;
+    cold = shifted_length (gap_of w number) scan.cold w.cold ∙ shaped.cold;
+    kelvin = shifted_length (gap_of w number) scan.kelvin w.kelvin ∙ shaped.kelvin;
   }
 
-  some-reached : 1 ≤ agesReached true number
-  some-reached = by-test (ltb number ages)
+  some_reached : 1 ≤ ages_reached true number
+  some_reached = by_test (ltb number ages)
     where
-      by-test : (b : Bool) → 1 ≤ cond b (number + 1) ages
-      by-test true = omega arith
-      by-test false = omega arith
+      by_test : (b : Bool) → 1 ≤ cond b (number + 1) ages
+      by_test true = omega arith
+      by_test false = omega arith
 
-  pub next-reached-only : (w.any ≡ true → w.last < number) → ReachedOnly w → ReachedOnly (windowAfter w number scan)
-  unfolding windowAfter
-  next-reached-only above only =
-      let before = agesReached w.any w.last in
+  pub next_reached_only : (w.any ≡ true → w.last < number) → ReachedOnly w → ReachedOnly (window_after w number scan)
+  unfolding window_after
+  next_reached_only above only =
+      let before = ages_reached w.any w.last in
       let gap = gap_of w number in
-      let after = agesReached true number in
-      let moved = reached-moves w.any w.last number above in
+      let after = ages_reached true number in
+      let moved = reached_moves w.any w.last number above in
       record {
         last = refl;
-        warm = λ i past. shifted-is-none channels before gap after scan.warm w.warm shape.warm shaped.warm some-reached only.warm i past moved;
-        cold = λ i past. shifted-is-none channels before gap after scan.cold w.cold shape.cold shaped.cold some-reached only.cold i past moved;
-        kelvin = λ i past. shifted-is-none thermometers before gap after scan.kelvin w.kelvin shape.kelvin shaped.kelvin some-reached only.kelvin i past moved;
+        warm = λ i past. shifted_is_none channels before gap after scan.warm w.warm shape.warm shaped.warm some_reached only.warm i past moved;
+        cold = λ i past. shifted_is_none channels before gap after scan.cold w.cold shape.cold shaped.cold some_reached only.cold i past moved;
+        kelvin = λ i past. shifted_is_none thermometers before gap after scan.kelvin w.kelvin shape.kelvin shaped.kelvin some_reached only.kelvin i past moved;
       }

@@ -1,16 +1,16 @@
 // A calibrator as bytes: written into a caller's memory, and read back from it.
 ghost use Rattle.std.specs.Prelude.{◌≡◌, true, ◌||◌, ◌&&◌, cond, ◌+◌, ◌*◌, ◌<◌, ◌≤◌, eqb, length, take, drop};
 ghost use Rattle.lists.specs.Build.{put};
-ghost use Rattle.fields.specs.Fields.{headSize, fieldBytes};
-ghost use Rattle.thermometer.specs.Reading.{fromTo};
+ghost use Rattle.fields.specs.Fields.{head_size, field_bytes};
+ghost use Rattle.thermometer.specs.Reading.{from_to};
 ghost use Rattle.table.specs.Opening.{AcceptedTable};
 ghost use Rattle.bias.specs.Opening.{AcceptedBias};
 ghost use Rattle.window.specs.Ranges.{WindowRange};
-ghost use Rattle.calibrator.specs.Steps.{calibratorWith};
+ghost use Rattle.calibrator.specs.Steps.{calibrator_with};
 ghost use Rattle.lastscan.specs.Ranges.{LastRange};
-ghost use Rattle.lastscan.specs.Numbers.{lastInside};
-ghost use Rattle.state.specs.State.{countsKept, kelvinsKept, stateSize, saved, numberBytes, frontBytes, lastBytes, numbersAt, tableIn, biasIn, windowIn, lastNumbersIn, lastIn, agesReached, numbersInside, windowInside, frontIsRight, isState};
-ghost use Rattle.state.specs.Steps.{windowStart, windowBytes};
+ghost use Rattle.lastscan.specs.Numbers.{last_inside};
+ghost use Rattle.state.specs.State.{counts_kept, kelvins_kept, state_size, saved, number_bytes, front_bytes, last_bytes, numbers_at, table_in, bias_in, window_in, last_numbers_in, last_in, ages_reached, numbers_inside, window_inside, front_is_right, is_state};
+ghost use Rattle.state.specs.Steps.{window_start, window_bytes};
 
 use bias::BIAS_SIZE;
 use fields::HEAD;
@@ -68,7 +68,7 @@ const MOST_KEPT: u32 = 12 * 65_535 + 1;
 // Numbers as u32, one after the other, from place `at` on.
 fn put_numbers(out: &mut [u8], at: usize, numbers: &[u32])
     requires { at + 4 * length numbers.now ≤ length out.old }
-    ensures { out.new ≡ put out.old at (numberBytes numbers.now) }
+    ensures { out.new ≡ put out.old at (number_bytes numbers.now) }
 {
     for i in 0..numbers.len() {
         fields::put_u32(out, at + 4 * i, numbers[i]);
@@ -77,8 +77,8 @@ fn put_numbers(out: &mut [u8], at: usize, numbers: &[u32])
 
 // A field whose value is these bytes.
 fn put_field(out: &mut [u8], at: usize, tag: u8, value: &[u8])
-    requires { (length value.now ≤ 65535) × (at + headSize + length value.now ≤ length out.old) }
-    ensures { out.new ≡ put out.old at (fieldBytes (record { tag = tag; size = length value.now }) value.now) }
+    requires { (length value.now ≤ 65535) × (at + head_size + length value.now ≤ length out.old) }
+    ensures { out.new ≡ put out.old at (field_bytes (record { tag = tag; size = length value.now }) value.now) }
 {
     fields::put_head(out, at, tag, value.len() as u16);
     let start = at + HEAD;
@@ -88,15 +88,15 @@ fn put_field(out: &mut [u8], at: usize, tag: u8, value: &[u8])
 
 // A field whose value is these numbers.
 fn put_number_field(out: &mut [u8], at: usize, tag: u8, numbers: &[u32])
-    requires { (4 * length numbers.now ≤ 65535) × (at + headSize + 4 * length numbers.now ≤ length out.old) }
-    ensures { out.new ≡ put out.old at (fieldBytes (record { tag = tag; size = 4 * length numbers.now }) (numberBytes numbers.now)) }
+    requires { (4 * length numbers.now ≤ 65535) × (at + head_size + 4 * length numbers.now ≤ length out.old) }
+    ensures { out.new ≡ put out.old at (field_bytes (record { tag = tag; size = 4 * length numbers.now }) (number_bytes numbers.now)) }
 {
     fields::put_head(out, at, tag, (4 * numbers.len()) as u16);
     put_numbers(out, at + HEAD, numbers);
 }
 
 fn front_bytes() -> [u8; 8]
-    ensures { result ≡ frontBytes }
+    ensures { result ≡ front_bytes }
 {
     let mut front = [0u8; 8];
     fields::put_u32(&mut front, 0, MAGIC);
@@ -114,7 +114,7 @@ fn byte_of(holds: bool) -> u8
 }
 
 fn last_bytes(any: bool, last: u32) -> [u8; 5]
-    ensures { result ≡ lastBytes any last }
+    ensures { result ≡ last_bytes any last }
 {
     let mut bytes = [0u8; 5];
     bytes[0] = byte_of(any);
@@ -127,7 +127,7 @@ fn last_bytes(any: bool, last: u32) -> [u8; 5]
 // As many numbers as `out` has, from place `at` on.
 fn numbers_at(state: &[u8], at: usize, out: &mut [u32])
     requires { at + 4 * length out.old ≤ length state.now }
-    ensures { out.new ≡ numbersAt state.now at (length out.old) }
+    ensures { out.new ≡ numbers_at state.now at (length out.old) }
 {
     for i in 0..out.len() {
         out[i] = fields::u32_at(state, at + 4 * i);
@@ -145,8 +145,8 @@ fn bytes_at(state: &[u8], at: usize, out: &mut [u8])
 
 // The table and the bias file of a state, as bytes of their own.
 pub fn table_in(state: &[u8]) -> [u8; TABLE_SIZE]
-    requires { stateSize ≤ length state.now }
-    ensures { result ≡ tableIn state.now }
+    requires { state_size ≤ length state.now }
+    ensures { result ≡ table_in state.now }
 {
     let mut table = [0u8; TABLE_SIZE];
     bytes_at(state, TABLE_AT, &mut table);
@@ -154,8 +154,8 @@ pub fn table_in(state: &[u8]) -> [u8; TABLE_SIZE]
 }
 
 pub fn bias_in(state: &[u8]) -> [u8; BIAS_SIZE]
-    requires { stateSize ≤ length state.now }
-    ensures { result ≡ biasIn state.now }
+    requires { state_size ≤ length state.now }
+    ensures { result ≡ bias_in state.now }
 {
     let mut bias = [0u8; BIAS_SIZE];
     bytes_at(state, BIAS_AT, &mut bias);
@@ -163,8 +163,8 @@ pub fn bias_in(state: &[u8]) -> [u8; BIAS_SIZE]
 }
 
 fn last_numbers_in(state: &[u8]) -> [u32; LAST_NUMBERS]
-    requires { stateSize ≤ length state.now }
-    ensures { result ≡ lastNumbersIn state.now }
+    requires { state_size ≤ length state.now }
+    ensures { result ≡ last_numbers_in state.now }
 {
     let mut numbers = [0u32; LAST_NUMBERS];
     numbers_at(state, KEPT_AT, &mut numbers);
@@ -173,16 +173,16 @@ fn last_numbers_in(state: &[u8]) -> [u32; LAST_NUMBERS]
 
 // What is kept of the last accepted scan.
 pub fn last_in(state: &[u8]) -> LastScan
-    requires { (stateSize ≤ length state.now) × (lastInside (windowIn state.now).any (lastNumbersIn state.now) ≡ true) }
-    ensures { result ≡ lastIn state.now }
+    requires { (state_size ≤ length state.now) × (last_inside (window_in state.now).any (last_numbers_in state.now) ≡ true) }
+    ensures { result ≡ last_in state.now }
 {
     let numbers = last_numbers_in(state);
     lastscan::last_by(&numbers)
 }
 
 pub fn window_in(state: &[u8]) -> Window
-    requires { stateSize ≤ length state.now }
-    ensures { result ≡ windowIn state.now }
+    requires { state_size ≤ length state.now }
+    ensures { result ≡ window_in state.now }
 {
     let mut warm = [0u32; COUNTS_KEPT];
     let mut cold = [0u32; COUNTS_KEPT];
@@ -202,8 +202,8 @@ pub fn window_in(state: &[u8]) -> Window
 // ---- which bytes are a state
 
 fn front_is_right(state: &[u8]) -> bool
-    requires { stateSize ≤ length state.now }
-    ensures { result ≡ frontIsRight state.now }
+    requires { state_size ≤ length state.now }
+    ensures { result ≡ front_is_right state.now }
 {
     let tests = [
         fields::layout_is_right(state, &TAGS, &SIZES),
@@ -215,7 +215,7 @@ fn front_is_right(state: &[u8]) -> bool
 }
 
 fn ages_reached(any: bool, last: u32) -> usize
-    ensures { result ≡ agesReached any last }
+    ensures { result ≡ ages_reached any last }
 {
     if !any {
         return 0;
@@ -227,7 +227,7 @@ fn ages_reached(any: bool, last: u32) -> usize
 }
 
 fn number_inside(number: u32, reached: bool, low: u32, high: u32) -> bool
-    ensures { result ≡ (eqb number 0 || (reached && fromTo low high number)) }
+    ensures { result ≡ (eqb number 0 || (reached && from_to low high number)) }
 {
     if number == 0 {
         return true;
@@ -239,7 +239,7 @@ fn number_inside(number: u32, reached: bool, low: u32, high: u32) -> bool
 }
 
 fn numbers_inside(reached: usize, low: u32, high: u32, numbers: &[u32]) -> bool
-    ensures { result ≡ numbersInside reached low high numbers.now }
+    ensures { result ≡ numbers_inside reached low high numbers.now }
 {
     for i in 0..numbers.len() {
         if !number_inside(numbers[i], i < reached, low, high) {
@@ -259,7 +259,7 @@ fn last_inside(any: bool, last: u32) -> bool
 }
 
 fn window_inside(window: Window) -> bool
-    ensures { result ≡ windowInside window }
+    ensures { result ≡ window_inside window }
 {
     let any = window.any;
     let last = window.last;
@@ -279,8 +279,8 @@ fn window_inside(window: Window) -> bool
 
 // The window's values, and what is kept of the last accepted scan.
 fn values_inside(state: &[u8]) -> bool
-    requires { stateSize ≤ length state.now }
-    ensures { result ≡ (windowInside (windowIn state.now) && lastInside (windowIn state.now).any (lastNumbersIn state.now)) }
+    requires { state_size ≤ length state.now }
+    ensures { result ≡ (window_inside (window_in state.now) && last_inside (window_in state.now).any (last_numbers_in state.now)) }
 {
     let window = window_in(state);
     if !window_inside(window) {
@@ -291,7 +291,7 @@ fn values_inside(state: &[u8]) -> bool
 }
 
 pub fn is_state(state: &[u8]) -> bool
-    ensures { result ≡ isState state.now }
+    ensures { result ≡ is_state state.now }
 {
     if state.len() < STATE_SIZE {
         return false;
@@ -314,8 +314,8 @@ pub fn is_state(state: &[u8]) -> bool
 
 // Fields 0x32 to 0x35.
 fn put_window(out: &mut [u8], any: bool, last: u32, warm: &[u32], cold: &[u32], kelvin: &[u32])
-    requires { (stateSize ≤ length out.old) × (length warm.now ≡ countsKept) × (length cold.now ≡ countsKept) × (length kelvin.now ≡ kelvinsKept) }
-    ensures { out.new ≡ put out.old windowStart (windowBytes (record { any = any; last = last; warm = warm.now; cold = cold.now; kelvin = kelvin.now })) }
+    requires { (state_size ≤ length out.old) × (length warm.now ≡ counts_kept) × (length cold.now ≡ counts_kept) × (length kelvin.now ≡ kelvins_kept) }
+    ensures { out.new ≡ put out.old window_start (window_bytes (record { any = any; last = last; warm = warm.now; cold = cold.now; kelvin = kelvin.now })) }
 {
     let bytes = last_bytes(any, last);
     put_field(out, LAST_AT - HEAD, TAGS[2], &bytes);
@@ -326,8 +326,8 @@ fn put_window(out: &mut [u8], any: bool, last: u32, warm: &[u32], cold: &[u32], 
 
 // The calibrator that has this table, this bias file, this window and this last accepted scan, in the place of the state.
 pub fn save(state: &mut [u8], table: &[u8], bias: &[u8], window: Window, last: LastScan)
-    requires { (stateSize ≤ length state.old) × AcceptedTable table.now × AcceptedBias bias.now × WindowRange window × LastRange last }
-    ensures { state.new ≡ saved state.old (calibratorWith table.now bias.now window last) }
+    requires { (state_size ≤ length state.old) × AcceptedTable table.now × AcceptedBias bias.now × WindowRange window × LastRange last }
+    ensures { state.new ≡ saved state.old (calibrator_with table.now bias.now window last) }
 {
     let front = front_bytes();
     let warm = window.warm;

@@ -5,25 +5,25 @@ use Rattle.lists.specs.Tests.{Verdict, passes, fails}
 use Rattle.thermometer.specs.Reading.{Result, units, notRead}
 use Rattle.calibrator.specs.declared.Calibrator.{Calibrator}
 use Rattle.calibrator.specs.Feeding.{fresh_of}
-use Rattle.feeds.specs.FeedList.{Lent, answerAt, buffersAt}
+use Rattle.feeds.specs.FeedList.{Lent, answer_at, buffersAt}
 
 -- version 6.1.0
-abbrev pub libraryVersion : ℕ
-libraryVersion = 60100
+abbrev pub library_version : ℕ
+library_version = 60100
 
 -- t, or what stood there before where there is none
-abbrev pub unitsOr : Result → ℤ → ℤ
-unitsOr (units t) before = t
-unitsOr (notRead n) before = before
+abbrev pub units_or : Result → ℤ → ℤ
+units_or (units t) before = t
+units_or (notRead n) before = before
 
 -- ---- a list fed to a fresh calibrator under this table and this bias file; a refusal of either writes nothing
-abbrev pub freshUnder : (table bias : List ℕ) → Calibrator
-freshUnder table bias = fresh_of (record { bytes = table }) (record { bytes = bias })
+abbrev pub fresh_under : (table bias : List ℕ) → Calibrator
+fresh_under table bias = fresh_of (record { bytes = table }) (record { bytes = bias })
 
-abbrev pub answersBy : Verdict → (table bias : List ℕ) → Lent → (answers : List ℕ) → List ℕ
-answersBy passes table bias lent answers = tabulate (answerAt (freshUnder table bias) lent) (length answers)
-answersBy (fails number) table bias lent answers = answers
+abbrev pub answers_by : Verdict → (table bias : List ℕ) → Lent → (answers : List ℕ) → List ℕ
+answers_by passes table bias lent answers = tabulate (answer_at (fresh_under table bias) lent) (length answers)
+answers_by (fails number) table bias lent answers = answers
 
-abbrev pub buffersBy : Verdict → (table bias : List ℕ) → Lent → ℕ → List ℕ
-buffersBy passes table bias lent n = buffersAt (freshUnder table bias) lent n
-buffersBy (fails number) table bias lent n = lent.buffers
+abbrev pub buffers_by : Verdict → (table bias : List ℕ) → Lent → ℕ → List ℕ
+buffers_by passes table bias lent n = buffersAt (fresh_under table bias) lent n
+buffers_by (fails number) table bias lent n = lent.buffers

@@ -3,10 +3,10 @@ ghost use Rattle.std.specs.Prelude.{◌≡◌, length};
 ghost use Rattle.lists.specs.Tests.{number_of};
 ghost use Rattle.thermometer.specs.Reading.{number, reading};
 ghost use Rattle.table.specs.Opening.{opening};
-ghost use Rattle.bias.specs.Opening.{biasOpening, bothOpening};
-ghost use Rattle.state.specs.State.{stateSize};
-ghost use Rattle.live.specs.Calls.{freshVerdict, freshBy, fedState, CallLeaves, foundIn, foundNumber, countOr};
-ghost use Rattle.station.specs.Calls.{libraryVersion, unitsOr, answersBy, buffersBy};
+ghost use Rattle.bias.specs.Opening.{bias_opening, both_opening};
+ghost use Rattle.state.specs.State.{state_size};
+ghost use Rattle.live.specs.Calls.{fresh_verdict, fresh_by, fed_state, CallLeaves, found_in, found_number, count_or};
+ghost use Rattle.station.specs.Calls.{library_version, units_or, answers_by, buffers_by};
 
 use calibrator::Calibrator;
 use thermometer::Reading;
@@ -24,7 +24,7 @@ pub extern "C" fn sounder_open(table: &[u8]) -> u8
 // Request W1: opening a bias file: 0, or 1 to 3.
 #[unsafe(no_mangle)]
 pub extern "C" fn sounder_open_bias(bias: &[u8]) -> u8
-    ensures { result ≡ number_of (biasOpening bias.now) }
+    ensures { result ≡ number_of (bias_opening bias.now) }
 {
     let opened = bias::open(bias);
     let outcome = opened.answer;
@@ -44,7 +44,7 @@ pub extern "C" fn sounder_thermometer(
     count: u16,
     t: &mut i32,
 ) -> u8
-    ensures { (result ≡ number (reading r_pam r0 alpha delta beta pam offset count)) × (t.new ≡ unitsOr (reading r_pam r0 alpha delta beta pam offset count) t.old) }
+    ensures { (result ≡ number (reading r_pam r0 alpha delta beta pam offset count)) × (t.new ≡ units_or (reading r_pam r0 alpha delta beta pam offset count) t.old) }
 {
     let answer = thermometer::thermometer(r_pam, r0, alpha, delta, beta, pam, offset, count);
     match answer {
@@ -69,7 +69,7 @@ pub extern "C" fn sounder_feed_all(
     buffer_lengths: &[u32],
     answers: &mut [u8],
 ) -> u8
-    ensures { (result ≡ number_of (bothOpening table.now bias.now)) × (answers.new ≡ answersBy (bothOpening table.now bias.now) table.now bias.now (record { scans = records.now; sizes = record_lengths.now; buffers = buffers.old; rooms = buffer_lengths.now }) answers.old) × (buffers.new ≡ buffersBy (bothOpening table.now bias.now) table.now bias.now (record { scans = records.now; sizes = record_lengths.now; buffers = buffers.old; rooms = buffer_lengths.now }) (length answers.old)) }
+    ensures { (result ≡ number_of (both_opening table.now bias.now)) × (answers.new ≡ answers_by (both_opening table.now bias.now) table.now bias.now (record { scans = records.now; sizes = record_lengths.now; buffers = buffers.old; rooms = buffer_lengths.now }) answers.old) × (buffers.new ≡ buffers_by (both_opening table.now bias.now) table.now bias.now (record { scans = records.now; sizes = record_lengths.now; buffers = buffers.old; rooms = buffer_lengths.now }) (length answers.old)) }
 {
     let opened = table::open(table);
     let answer = opened.answer;
@@ -99,7 +99,7 @@ pub extern "C" fn sounder_feed_all(
 // How many bytes a state has.
 #[unsafe(no_mangle)]
 pub extern "C" fn sounder_state_size() -> usize
-    ensures { result ≡ stateSize }
+    ensures { result ≡ state_size }
 {
     state::STATE_SIZE
 }
@@ -107,7 +107,7 @@ pub extern "C" fn sounder_state_size() -> usize
 // Writes the state of a fresh calibrator under this table and this bias file: 0, 1 to 3, or 254 where the state is too short.
 #[unsafe(no_mangle)]
 pub extern "C" fn sounder_fresh(table: &[u8], bias: &[u8], state: &mut [u8]) -> u8
-    ensures { (result ≡ number_of (freshVerdict table.now bias.now state.old)) × (state.new ≡ freshBy (freshVerdict table.now bias.now state.old) table.now bias.now state.old) }
+    ensures { (result ≡ number_of (fresh_verdict table.now bias.now state.old)) × (state.new ≡ fresh_by (fresh_verdict table.now bias.now state.old) table.now bias.now state.old) }
 {
     live::fresh(table, bias, state)
 }
@@ -115,7 +115,7 @@ pub extern "C" fn sounder_fresh(table: &[u8], bias: &[u8], state: &mut [u8]) -> 
 // Feeds a scan to the calibrator of a state: 0, 254 where the bytes are no state, or 4 to 7.
 #[unsafe(no_mangle)]
 pub extern "C" fn sounder_feed(state: &mut [u8], scan: &[u8], buffer: &mut [u8]) -> u8
-    ensures { CallLeaves (fedState state.old (record { scan = scan.entry.now; buffer = buffer.old })) result state.new buffer.new }
+    ensures { CallLeaves (fed_state state.old (record { scan = scan.entry.now; buffer = buffer.old })) result state.new buffer.new }
 {
     live::feed(state, scan, buffer)
 }
@@ -129,7 +129,7 @@ pub extern "C" fn sounder_count_behind(
     wanted: u32,
     count: &mut u16,
 ) -> u8
-    ensures { (result ≡ foundNumber (foundIn state.now channel wanted)) × (count.new ≡ countOr (foundIn state.now channel wanted) count.old) }
+    ensures { (result ≡ found_number (found_in state.now channel wanted)) × (count.new ≡ count_or (found_in state.now channel wanted) count.old) }
 {
     live::count_behind(state, channel, wanted, count)
 }
@@ -137,7 +137,7 @@ pub extern "C" fn sounder_count_behind(
 // 10,000 times the major, 100 times the minor and once the patch number of the version.
 #[unsafe(no_mangle)]
 pub extern "C" fn sounder_version() -> u32
-    ensures { result ≡ libraryVersion }
+    ensures { result ≡ library_version }
 {
     60_100
 }

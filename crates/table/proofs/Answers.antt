@@ -4,18 +4,18 @@ use mathlib.Core.Bool.{Bool, true, false, not}
 use lib.IntN.{ℤ}
 use lib.Signed.{◌<ℤ◌, le_z, clash_ℤ}
 use borrow.Author.Tests.{not-true, not-false}
-use Rattle.integers.proofs.Order.{leZ-true}
+use Rattle.integers.proofs.Order.{le_z_true}
 
 module _ {answer test : Bool} (answers : answer ≡ test) where
-  pub test-failed : not answer ≡ true → test ≡ false
-  test-failed taken = sym answers ∙ not-true answer taken
+  pub test_failed : not answer ≡ true → test ≡ false
+  test_failed taken = sym answers ∙ not-true answer taken
 
-  pub test-passed : not answer ≡ false → test ≡ true
-  test-passed left = sym answers ∙ not-false answer left
+  pub test_passed : not answer ≡ false → test ≡ true
+  test_passed left = sym answers ∙ not-false answer left
 
-pub below-is-not-above : {x y : ℤ} → x <ℤ y → le_z y x ≡ false
-below-is-not-above {x} {y} below = by-test (le_z y x) refl
+pub below_is_not_above : {x y : ℤ} → x <ℤ y → le_z y x ≡ false
+below_is_not_above {x} {y} below = by_test (le_z y x) refl
   where
-    by-test : (b : Bool) → le_z y x ≡ b → b ≡ false
-    by-test true above = clash_ℤ below (leZ-true above)
-    by-test false not-above = refl
+    by_test : (b : Bool) → le_z y x ≡ b → b ≡ false
+    by_test true above = clash_ℤ below (le_z_true above)
+    by_test false not_above_lem = refl

@@ -5,17 +5,17 @@ use mathlib.Core.Path.{◌≡◌, refl, sym, ap, ◌∙◌}
 use Rattle.lists.specs.Tests.{Verdict, passes, number_of}
 use Rattle.table.specs.declared.Opening.{Opening}
 use Rattle.table.specs.declared.Opening.TheVariants.{Accepted, LengthWrong, FieldWrong, ValueOutside}
-use Rattle.table.specs.Opening.{verdictOf}
+use Rattle.table.specs.Opening.{verdict_of}
 
-passes-at-zero : (answer : Opening) → number_of (verdictOf answer) ≡ 0 → verdictOf answer ≡ passes
-passes-at-zero Accepted zero = refl
-passes-at-zero LengthWrong zero = absurd (omega (arith, zero))
-passes-at-zero FieldWrong zero = absurd (omega (arith, zero))
-passes-at-zero ValueOutside zero = absurd (omega (arith, zero))
+passes_at_zero : (answer : Opening) → number_of (verdict_of answer) ≡ 0 → verdict_of answer ≡ passes
+passes_at_zero Accepted zero = refl
+passes_at_zero LengthWrong zero = absurd (omega (arith, zero))
+passes_at_zero FieldWrong zero = absurd (omega (arith, zero))
+passes_at_zero ValueOutside zero = absurd (omega (arith, zero))
 
-module _ (answer : Opening) {verdict : Verdict} {n : ℕ} (answers : verdictOf answer ≡ verdict) (numbered : n ≡ number_of (verdictOf answer)) where
+module _ (answer : Opening) {verdict : Verdict} {n : ℕ} (answers : verdict_of answer ≡ verdict) (numbered : n ≡ number_of (verdict_of answer)) where
   pub number_is : n ≡ number_of verdict
   number_is = numbered ∙ ap number_of answers
 
-  pub passed-at-zero : n ≡ 0 → verdict ≡ passes
-  passed-at-zero zero = sym answers ∙ passes-at-zero answer (sym numbered ∙ zero)
+  pub passed_at_zero : n ≡ 0 → verdict ≡ passes
+  passed_at_zero zero = sym answers ∙ passes_at_zero answer (sym numbered ∙ zero)

@@ -1,4 +1,4 @@
--- Values that pass the tests of `valuesInside` are in the ranges of `SettingsRange`.
+-- Values that pass the tests of `values_inside` are in the ranges of `SettingsRange`.
 use Prim.Native.Nat.{ℕ, ◌+◌, ◌-◌, ◌≤◌, ◌<◌}
 use native.Mathlib.Omega.{arith}
 use mathlib.Core.Path.{◌≡◌}
@@ -10,11 +10,11 @@ use lib.IntN.{ℤ, pos, neg_ℤ}
 use lib.Signed.{le_z, lt_z, ◌<ℤ◌}
 use borrow.Author.Tests.{leb-true, ne_eqb}
 use Rattle.integers.specs.Bounds.{Bounded}
-use Rattle.integers.proofs.Order.{leZ-true, ltZ-true}
+use Rattle.integers.proofs.Order.{le_z_true, lt_z_true}
 use Rattle.lists.specs.Sum.{sum}
 use Rattle.lists.specs.Count.{every}
-use Rattle.lists.proofs.Every.{each-of-every, each-of-all}
-use Rattle.thermometer.specs.Reading.{fromTo, resistanceInside}
+use Rattle.lists.proofs.Every.{each_of_every, each_of_all}
+use Rattle.thermometer.specs.Reading.{from_to, resistance_inside}
 use Rattle.instrument.specs.declared.Side.{Side}
 use Rattle.instrument.specs.declared.Side.TheVariants.{Warm, Cold}
 use Rattle.instrument.specs.declared.Target.{Target}
@@ -23,101 +23,101 @@ use Rattle.instrument.specs.Instrument.{thermometers, channels, size_of}
 use Rattle.table.specs.declared.Thermometer.{Thermometer}
 use Rattle.table.specs.declared.ShelfPair.{ShelfPair}
 use Rattle.table.specs.Settings.{pairs, ChannelSettings, Settings}
-use Rattle.table.specs.Ranges.{sizeTo, leastsInside, thermometerLimitsInside, thermometerInside, channelInside, pairInside, weightOf, sumsInside, valuesInside}
+use Rattle.table.specs.Ranges.{size_to, leasts_inside, thermometer_limits_inside, thermometer_inside, channel_inside, pair_inside, weight_of, sums_inside, values_inside}
 use Rattle.table.specs.ValueRanges.{Between, ThermometerRange, ShelfPairsRange, ChannelRange, SettingsRange}
 
 -- ---- one test
 both : (a b : Bool) → (a && b) ≡ true → (a ≡ true) × (b ≡ true)
 both a b holds = (and-eq-true_iff a b).0 holds
 
-pub in_between : {low high x : ℕ} → fromTo low high x ≡ true → Between low high x
+pub in_between : {low high x : ℕ} → from_to low high x ≡ true → Between low high x
 in_between {low} {high} {x} holds =
     let tests = both (leb low x) (leb x high) holds in
     (leb-true low x tests.0, leb-true x high tests.1)
 
-pub bounded : {m : ℕ} {z : ℤ} → sizeTo m z ≡ true → Bounded z (pos m)
+pub bounded : {m : ℕ} {z : ℤ} → size_to m z ≡ true → Bounded z (pos m)
 bounded {m} {z} holds =
     let tests = both (le_z (neg_ℤ (pos m)) z) (le_z z (pos m)) holds in
-    record { low = leZ-true tests.0; high = leZ-true tests.1 }
+    record { low = le_z_true tests.0; high = le_z_true tests.1 }
 
 -- ---- both sides, both targets
-each-side : (Holds : Side → Type 0) → Holds Warm → Holds Cold → (side : Side) → Holds side
-each-side Holds warm cold Warm = warm
-each-side Holds warm cold Cold = cold
+each_side : (Holds : Side → Type 0) → Holds Warm → Holds Cold → (side : Side) → Holds side
+each_side Holds warm cold Warm = warm
+each_side Holds warm cold Cold = cold
 
-each-target : (Holds : Target → Type 0) → Holds Kav → Holds Wg → (target : Target) → Holds target
-each-target Holds kav wg Kav = kav
-each-target Holds kav wg Wg = wg
+each_target : (Holds : Target → Type 0) → Holds Kav → Holds Wg → (target : Target) → Holds target
+each_target Holds kav wg Kav = kav
+each_target Holds kav wg Wg = wg
 
 -- ---- one row
-thermometer-in-range : (t : Thermometer) → thermometerInside t ≡ true → ThermometerRange t
-thermometer-in-range t holds =
-    let r0 = both (resistanceInside t.r0) _ holds in
-    let alpha = both (fromTo 3000000 5000000 t.alpha) _ r0.1 in
+thermometer_in_range : (t : Thermometer) → thermometer_inside t ≡ true → ThermometerRange t
+thermometer_in_range t holds =
+    let r0 = both (resistance_inside t.r0) _ holds in
+    let alpha = both (from_to 3000000 5000000 t.alpha) _ r0.1 in
     let delta = both (leb t.delta 2000000) _ alpha.1 in
     let alpha-between : Between 3000000 5000000 t.alpha = in_between alpha.0 in
     record {
       r0 = in_between r0.0;
       coefficients = record {
-        alpha-low = alpha-between.0;
+        alpha_low = alpha-between.0;
         alpha-high = alpha-between.1;
         delta-high = leb-true t.delta 2000000 delta.0;
         beta-high = leb-true t.beta 500000 delta.1;
       };
     }
 
-module _ (pair : ℕ → ShelfPair) (holds : every (pairInside pair) pairs ≡ true) where
-  abbrev pairTests : ℕ → List Bool
-  pairTests j = sizeTo 245760 (pair j).shelf ∷ sizeTo 8192 (pair j).tnl ∷ (eqb j 0 || lt_z (pair (j - 1)).shelf (pair j).shelf) ∷ []
+module _ (pair : ℕ → ShelfPair) (holds : every (pair_inside pair) pairs ≡ true) where
+  abbrev pair_tests : ℕ → List Bool
+  pair_tests j = size_to 245760 (pair j).shelf ∷ size_to 8192 (pair j).tnl ∷ (eqb j 0 || lt_z (pair (j - 1)).shelf (pair j).shelf) ∷ []
 
-  pair-test : (j : ℕ) → j < pairs → (k : ℕ) → get_or (pairTests j) k true ≡ true
-  unfolding pairInside
-  pair-test j below = each-of-all (pairTests j) (each-of-every (pairInside pair) pairs j holds below)
+  pair_test : (j : ℕ) → j < pairs → (k : ℕ) → get_or (pair_tests j) k true ≡ true
+  unfolding pair_inside
+  pair_test j below = each_of_all (pair_tests j) (each_of_every (pair_inside pair) pairs j holds below)
 
-  shelf-rises : (j : ℕ) → j + 1 < pairs → (pair j).shelf <ℤ (pair (j + 1)).shelf
-  shelf-rises j below =
+  shelf_rises : (j : ℕ) → j + 1 < pairs → (pair j).shelf <ℤ (pair (j + 1)).shelf
+  shelf_rises j below =
       let before : j + 1 - 1 ≡ j = omega arith in
-      let rises = pair-test (j + 1) below 2 in
-      ltZ-true (rw (ne_eqb (j + 1) 0 (λ first. omega arith), before) at rises)
+      let rises = pair_test (j + 1) below 2 in
+      lt_z_true (rw (ne_eqb (j + 1) 0 (λ first. omega arith), before) at rises)
 
-  shelf-pairs-in-range : ShelfPairsRange pair
-  shelf-pairs-in-range = record { shelf = λ j below. bounded (pair-test j below 0); tnl = λ j below. bounded (pair-test j below 1); rises = shelf-rises }
+  shelf_pairs_in_range : ShelfPairsRange pair
+  shelf_pairs_in_range = record { shelf = λ j below. bounded (pair_test j below 0); tnl = λ j below. bounded (pair_test j below 1); rises = shelf_rises }
 
-channel-in-range : (c : ChannelSettings) → channelInside c ≡ true → every (pairInside c.pair) pairs ≡ true → ChannelRange c
-unfolding channelInside
-channel-in-range c holds pairs-hold =
-    let test = each-of-all (leb (c.limits Warm).low (c.limits Warm).upp ∷ leb (c.limits Cold).low (c.limits Cold).upp ∷ sizeTo 4096 c.b ∷ leb c.rj 16384 ∷ leb c.sl 16384 ∷ sizeTo 0 c.tnl ∷ []) holds in
+channel_in_range : (c : ChannelSettings) → channel_inside c ≡ true → every (pair_inside c.pair) pairs ≡ true → ChannelRange c
+unfolding channel_inside
+channel_in_range c holds pairs-hold =
+    let test = each_of_all (leb (c.limits Warm).low (c.limits Warm).upp ∷ leb (c.limits Cold).low (c.limits Cold).upp ∷ size_to 4096 c.b ∷ leb c.rj 16384 ∷ leb c.sl 16384 ∷ size_to 0 c.tnl ∷ []) holds in
     record {
-      limits = each-side (λ side. (c.limits side).low ≤ (c.limits side).upp) (leb-true _ _ (test 0)) (leb-true _ _ (test 1));
+      limits = each_side (λ side. (c.limits side).low ≤ (c.limits side).upp) (leb-true _ _ (test 0)) (leb-true _ _ (test 1));
       b = bounded (test 2);
       rj = leb-true _ _ (test 3);
       sl = leb-true _ _ (test 4);
-      pair = shelf-pairs-in-range c.pair pairs-hold;
+      pair = shelf_pairs_in_range c.pair pairs-hold;
     }
 
 -- ---- the whole table
-pub values-in-range : (s : Settings) → valuesInside s ≡ true → SettingsRange s
-unfolding valuesInside leastsInside thermometerLimitsInside sumsInside
-values-in-range s holds =
-    let thermometerTest : ℕ → Bool = λ i. thermometerInside (s.thermometer i) in
-    let channelTest : ℕ → Bool = λ c. channelInside (s.channel c) in
-    let pairsTest : ℕ → Bool = λ c. every (pairInside (s.channel c).pair) pairs in
-    let part = each-of-all (leastsInside s ∷ thermometerLimitsInside s ∷ every thermometerTest thermometers ∷ every channelTest channels ∷ every pairsTest channels ∷ sumsInside s ∷ []) holds in
-    let least = each-of-all (fromTo 1 100 s.percentThermometers ∷ fromTo 1 100 (s.percent Warm) ∷ fromTo 1 100 (s.percent Cold) ∷ fromTo 1 (size_of Kav) (s.least Kav) ∷ fromTo 1 (size_of Wg) (s.least Wg) ∷ []) (part 0) in
-    let limit = each-of-all (resistanceInside s.rPam ∷ sizeTo 245760 s.tLow ∷ sizeTo 245760 s.tUpp ∷ le_z s.tLow s.tUpp ∷ leb s.dT 491520 ∷ []) (part 1) in
-    let total = each-of-all (fromTo 1 255 (sum s.w s.ages) ∷ fromTo 1 255 (sum s.v s.ages) ∷ fromTo 1 255 (weightOf s Kav) ∷ fromTo 1 255 (weightOf s Wg) ∷ []) (part 5) in
+pub values_in_range : (s : Settings) → values_inside s ≡ true → SettingsRange s
+unfolding values_inside leasts_inside thermometer_limits_inside sums_inside
+values_in_range s holds =
+    let thermometerTest : ℕ → Bool = λ i. thermometer_inside (s.thermometer i) in
+    let channelTest : ℕ → Bool = λ c. channel_inside (s.channel c) in
+    let pairsTest : ℕ → Bool = λ c. every (pair_inside (s.channel c).pair) pairs in
+    let part = each_of_all (leasts_inside s ∷ thermometer_limits_inside s ∷ every thermometerTest thermometers ∷ every channelTest channels ∷ every pairsTest channels ∷ sums_inside s ∷ []) holds in
+    let least = each_of_all (from_to 1 100 s.percent_thermometers ∷ from_to 1 100 (s.percent Warm) ∷ from_to 1 100 (s.percent Cold) ∷ from_to 1 (size_of Kav) (s.least Kav) ∷ from_to 1 (size_of Wg) (s.least Wg) ∷ []) (part 0) in
+    let limit = each_of_all (resistance_inside s.rPam ∷ size_to 245760 s.tLow ∷ size_to 245760 s.tUpp ∷ le_z s.tLow s.tUpp ∷ leb s.dT 491520 ∷ []) (part 1) in
+    let total = each_of_all (from_to 1 255 (sum s.w s.ages) ∷ from_to 1 255 (sum s.v s.ages) ∷ from_to 1 255 (weight_of s Kav) ∷ from_to 1 255 (weight_of s Wg) ∷ []) (part 5) in
     record {
-      percentThermometers = in_between (least 0);
-      percent = each-side (λ side. Between 1 100 (s.percent side)) (in_between (least 1)) (in_between (least 2));
-      least = each-target (λ target. Between 1 (size_of target) (s.least target)) (in_between (least 3)) (in_between (least 4));
+      percent_thermometers = in_between (least 0);
+      percent = each_side (λ side. Between 1 100 (s.percent side)) (in_between (least 1)) (in_between (least 2));
+      least = each_target (λ target. Between 1 (size_of target) (s.least target)) (in_between (least 3)) (in_between (least 4));
       rPam = in_between (limit 0);
       tLow = bounded (limit 1);
       tUpp = bounded (limit 2);
-      tOrder = leZ-true (limit 3);
+      tOrder = le_z_true (limit 3);
       dT = leb-true _ _ (limit 4);
-      thermometer = λ i below. thermometer-in-range (s.thermometer i) (each-of-every thermometerTest thermometers i (part 2) below);
-      channel = λ c below. channel-in-range (s.channel c) (each-of-every channelTest channels c (part 3) below) (each-of-every pairsTest channels c (part 4) below);
+      thermometer = λ i below. thermometer_in_range (s.thermometer i) (each_of_every thermometerTest thermometers i (part 2) below);
+      channel = λ c below. channel_in_range (s.channel c) (each_of_every channelTest channels c (part 3) below) (each_of_every pairsTest channels c (part 4) below);
       sumW = in_between (total 0);
       sumV = in_between (total 1);
-      sumP = each-target (λ target. Between 1 255 (weightOf s target)) (in_between (total 2)) (in_between (total 3));
+      sumP = each_target (λ target. Between 1 255 (weight_of s target)) (in_between (total 2)) (in_between (total 3));
     }

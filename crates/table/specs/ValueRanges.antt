@@ -9,7 +9,7 @@ use Rattle.table.specs.declared.Thermometer.{Thermometer}
 use Rattle.table.specs.declared.ShelfPair.{ShelfPair}
 use Rattle.table.specs.Settings.{pairs, ChannelSettings, Settings}
 use Rattle.instrument.specs.Instrument.{thermometers, channels, size_of}
-use Rattle.table.specs.Ranges.{weightOf}
+use Rattle.table.specs.Ranges.{weight_of}
 
 abbrev pub Between : ℕ → ℕ → ℕ → Type 0
 Between low high x = (low ≤ x) × (x ≤ high)
@@ -31,7 +31,7 @@ pub record ChannelRange (c : ChannelSettings) : Type 0 where
   pub pair : ShelfPairsRange c.pair
 
 pub record SettingsRange (s : Settings) : Type 0 where
-  pub percentThermometers : Between 1 100 s.percentThermometers
+  pub percent_thermometers : Between 1 100 s.percent_thermometers
   pub percent : (side : Side) → Between 1 100 (s.percent side)
   pub least : (target : Target) → Between 1 (size_of target) (s.least target)
   pub rPam : Between 1000 4000000 s.rPam
@@ -43,4 +43,4 @@ pub record SettingsRange (s : Settings) : Type 0 where
   pub channel : (c : ℕ) → c < channels → ChannelRange (s.channel c)
   pub sumW : Between 1 255 (sum s.w s.ages)
   pub sumV : Between 1 255 (sum s.v s.ages)
-  pub sumP : (target : Target) → Between 1 255 (weightOf s target)
+  pub sumP : (target : Target) → Between 1 255 (weight_of s target)

@@ -5,11 +5,11 @@ ghost use Rattle.lists.specs.Sum.{sum};
 ghost use Rattle.lists.specs.Count.{every};
 ghost use Rattle.lists.specs.Tests.{number_of};
 ghost use Rattle.instrument.specs.Instrument.{thermometers, channels};
-ghost use Rattle.thermometer.specs.Reading.{fromTo};
-ghost use Rattle.table.specs.Settings.{pairs, settingsOf, correctionsOf};
-ghost use Rattle.table.specs.Ranges.{sizeTo, leastsInside, thermometerLimitsInside, thermometerInside, channelInside, pairInside, sumsInside, valuesInside, weightOf};
-ghost use Rattle.table.specs.Opening.{ages, tableSize, verdictOf, opening, tableBy};
-ghost use Rattle.table.specs.Steps.{rowCount, rowInside};
+ghost use Rattle.thermometer.specs.Reading.{from_to};
+ghost use Rattle.table.specs.Settings.{pairs, settings_of, corrections_of};
+ghost use Rattle.table.specs.Ranges.{size_to, leasts_inside, thermometer_limits_inside, thermometer_inside, channel_inside, pair_inside, sums_inside, values_inside, weight_of};
+ghost use Rattle.table.specs.Opening.{ages, table_size, verdict_of, opening, table_by};
+ghost use Rattle.table.specs.Steps.{row_count, row_inside};
 
 use fields::HEAD;
 use instrument::{CHANNELS, KAV_THERMOMETERS, Side, THERMOMETERS, Target, WG_THERMOMETERS};
@@ -126,7 +126,7 @@ pub struct ShelfPair {
 }
 
 pub fn from_to(low: u32, high: u32, x: u32) -> bool
-    ensures { result ≡ fromTo low high x }
+    ensures { result ≡ from_to low high x }
 {
     if x < low {
         return false;
@@ -136,7 +136,7 @@ pub fn from_to(low: u32, high: u32, x: u32) -> bool
 
 // Whether z is from -most to most.
 pub fn size_to(most: u32, z: i64) -> bool
-    ensures { result ≡ sizeTo most z }
+    ensures { result ≡ size_to most z }
 {
     let m = most as i64;
     if z < -m {
@@ -154,46 +154,46 @@ fn at_most(a: i64, b: i64) -> bool
 
 // w of age k, and v.
 pub fn count_weight(table: &[u8], k: usize) -> u8
-    requires { (length table.now ≡ tableSize) × (k < ages) }
-    ensures { result ≡ (settingsOf ages table.now).w k }
+    requires { (length table.now ≡ table_size) × (k < ages) }
+    ensures { result ≡ (settings_of ages table.now).w k }
 {
     table[COUNT_WEIGHTS_AT + k]
 }
 
 pub fn thermometer_weight(table: &[u8], k: usize) -> u8
-    requires { (length table.now ≡ tableSize) × (k < ages) }
-    ensures { result ≡ (settingsOf ages table.now).v k }
+    requires { (length table.now ≡ table_size) × (k < ages) }
+    ensures { result ≡ (settings_of ages table.now).v k }
 {
     table[THERMOMETER_WEIGHTS_AT + k]
 }
 
 // The least percentages, and the least number of good thermometers of a target.
 pub fn percent_thermometers(table: &[u8]) -> u8
-    requires { length table.now ≡ tableSize }
-    ensures { result ≡ (settingsOf ages table.now).percentThermometers }
+    requires { length table.now ≡ table_size }
+    ensures { result ≡ (settings_of ages table.now).percent_thermometers }
 {
     table[PERCENTS_AT]
 }
 
 pub fn percent_of(table: &[u8], side: Side) -> u8
-    requires { length table.now ≡ tableSize }
-    ensures { result ≡ (settingsOf ages table.now).percent side }
+    requires { length table.now ≡ table_size }
+    ensures { result ≡ (settings_of ages table.now).percent side }
 {
     let at = PERCENTS_AT + 1 + instrument::side_place(side);
     table[at]
 }
 
 pub fn least_of(table: &[u8], target: Target) -> u8
-    requires { length table.now ≡ tableSize }
-    ensures { result ≡ (settingsOf ages table.now).least target }
+    requires { length table.now ≡ table_size }
+    ensures { result ≡ (settings_of ages table.now).least target }
 {
     let at = LEASTS_AT + instrument::target_place(target);
     table[at]
 }
 
 fn leasts_inside(table: &[u8]) -> bool
-    requires { length table.now ≡ tableSize }
-    ensures { result ≡ leastsInside (settingsOf ages table.now) }
+    requires { length table.now ≡ table_size }
+    ensures { result ≡ leasts_inside (settings_of ages table.now) }
 {
     let tests = [
         from_to(1, 100, percent_thermometers(table) as u32),
@@ -214,36 +214,36 @@ fn leasts_inside(table: &[u8]) -> bool
 }
 
 pub fn r_pam(table: &[u8]) -> u32
-    requires { length table.now ≡ tableSize }
-    ensures { result ≡ (settingsOf ages table.now).rPam }
+    requires { length table.now ≡ table_size }
+    ensures { result ≡ (settings_of ages table.now).rPam }
 {
     fields::u32_at(table, R_PAM_AT)
 }
 
 pub fn t_low(table: &[u8]) -> i64
-    requires { length table.now ≡ tableSize }
-    ensures { result ≡ (settingsOf ages table.now).tLow }
+    requires { length table.now ≡ table_size }
+    ensures { result ≡ (settings_of ages table.now).tLow }
 {
     fields::i32_at(table, T_LOW_AT)
 }
 
 pub fn t_upp(table: &[u8]) -> i64
-    requires { length table.now ≡ tableSize }
-    ensures { result ≡ (settingsOf ages table.now).tUpp }
+    requires { length table.now ≡ table_size }
+    ensures { result ≡ (settings_of ages table.now).tUpp }
 {
     fields::i32_at(table, T_UPP_AT)
 }
 
 pub fn d_t(table: &[u8]) -> u32
-    requires { length table.now ≡ tableSize }
-    ensures { result ≡ (settingsOf ages table.now).dT }
+    requires { length table.now ≡ table_size }
+    ensures { result ≡ (settings_of ages table.now).dT }
 {
     fields::u32_at(table, D_T_AT)
 }
 
 fn thermometer_limits_inside(table: &[u8]) -> bool
-    requires { length table.now ≡ tableSize }
-    ensures { result ≡ thermometerLimitsInside (settingsOf ages table.now) }
+    requires { length table.now ≡ table_size }
+    ensures { result ≡ thermometer_limits_inside (settings_of ages table.now) }
 {
     let low = t_low(table);
     let upp = t_upp(table);
@@ -259,8 +259,8 @@ fn thermometer_limits_inside(table: &[u8]) -> bool
 
 // Thermometer i, counted from 0.
 pub fn thermometer_of(table: &[u8], i: usize) -> Thermometer
-    requires { (length table.now ≡ tableSize) × (i < thermometers) }
-    ensures { result ≡ (settingsOf ages table.now).thermometer i }
+    requires { (length table.now ≡ table_size) × (i < thermometers) }
+    ensures { result ≡ (settings_of ages table.now).thermometer i }
 {
     let at = THERMOMETERS_AT + THERMOMETER_ROW * i;
     Thermometer {
@@ -273,8 +273,8 @@ pub fn thermometer_of(table: &[u8], i: usize) -> Thermometer
 }
 
 fn thermometer_inside(table: &[u8], i: usize) -> bool
-    requires { (length table.now ≡ tableSize) × (i < thermometers) }
-    ensures { result ≡ thermometerInside ((settingsOf ages table.now).thermometer i) }
+    requires { (length table.now ≡ table_size) × (i < thermometers) }
+    ensures { result ≡ thermometer_inside ((settings_of ages table.now).thermometer i) }
 {
     let t = thermometer_of(table, i);
     thermometer::coefficients_inside(t.r0, t.alpha, t.delta, t.beta)
@@ -282,8 +282,8 @@ fn thermometer_inside(table: &[u8], i: usize) -> bool
 
 // The limits of a side of channel c, counted from 0.
 pub fn limits_of(table: &[u8], c: usize, side: Side) -> Limits
-    requires { (length table.now ≡ tableSize) × (c < channels) }
-    ensures { result ≡ ((settingsOf ages table.now).channel c).limits side }
+    requires { (length table.now ≡ table_size) × (c < channels) }
+    ensures { result ≡ ((settings_of ages table.now).channel c).limits side }
 {
     let at = CHANNELS_AT + CHANNEL_ROW * c + 6 * instrument::side_place(side);
     Limits {
@@ -295,8 +295,8 @@ pub fn limits_of(table: &[u8], c: usize, side: Side) -> Limits
 
 // b, rj, sl and TNL of channel c.
 pub fn corrections_of(table: &[u8], c: usize) -> Corrections
-    requires { (length table.now ≡ tableSize) × (c < channels) }
-    ensures { result ≡ correctionsOf ((settingsOf ages table.now).channel c) }
+    requires { (length table.now ≡ table_size) × (c < channels) }
+    ensures { result ≡ corrections_of ((settings_of ages table.now).channel c) }
 {
     let at = CHANNELS_AT + CHANNEL_ROW * c;
     Corrections {
@@ -308,8 +308,8 @@ pub fn corrections_of(table: &[u8], c: usize) -> Corrections
 }
 
 fn channel_inside(table: &[u8], c: usize) -> bool
-    requires { (length table.now ≡ tableSize) × (c < channels) }
-    ensures { result ≡ channelInside ((settingsOf ages table.now).channel c) }
+    requires { (length table.now ≡ table_size) × (c < channels) }
+    ensures { result ≡ channel_inside ((settings_of ages table.now).channel c) }
 {
     let warm = limits_of(table, c, Side::Warm);
     let cold = limits_of(table, c, Side::Cold);
@@ -327,8 +327,8 @@ fn channel_inside(table: &[u8], c: usize) -> bool
 
 // Pair j of channel c, both counted from 0.
 pub fn pair_of(table: &[u8], c: usize, j: usize) -> ShelfPair
-    requires { (length table.now ≡ tableSize) × (c < channels) × (j < pairs) }
-    ensures { result ≡ ((settingsOf ages table.now).channel c).pair j }
+    requires { (length table.now ≡ table_size) × (c < channels) × (j < pairs) }
+    ensures { result ≡ ((settings_of ages table.now).channel c).pair j }
 {
     let at = PAIRS_AT + PAIRS_ROW * c + PAIR_SIZE * j;
     ShelfPair {
@@ -339,8 +339,8 @@ pub fn pair_of(table: &[u8], c: usize, j: usize) -> ShelfPair
 
 // Whether pair j of channel c is the first, or above the shelf temperature of the one before.
 fn shelf_rises(table: &[u8], c: usize, j: usize) -> bool
-    requires { (length table.now ≡ tableSize) × (c < channels) × (j < pairs) }
-    ensures { result ≡ (eqb j 0 || lt_z (((settingsOf ages table.now).channel c).pair (j - 1)).shelf (((settingsOf ages table.now).channel c).pair j).shelf) }
+    requires { (length table.now ≡ table_size) × (c < channels) × (j < pairs) }
+    ensures { result ≡ (eqb j 0 || lt_z (((settings_of ages table.now).channel c).pair (j - 1)).shelf (((settings_of ages table.now).channel c).pair j).shelf) }
 {
     if j == 0 {
         return true;
@@ -351,8 +351,8 @@ fn shelf_rises(table: &[u8], c: usize, j: usize) -> bool
 }
 
 fn pair_inside(table: &[u8], c: usize, j: usize) -> bool
-    requires { (length table.now ≡ tableSize) × (c < channels) × (j < pairs) }
-    ensures { result ≡ pairInside ((settingsOf ages table.now).channel c).pair j }
+    requires { (length table.now ≡ table_size) × (c < channels) × (j < pairs) }
+    ensures { result ≡ pair_inside ((settings_of ages table.now).channel c).pair j }
 {
     let pair = pair_of(table, c, j);
     let tests = [
@@ -365,8 +365,8 @@ fn pair_inside(table: &[u8], c: usize, j: usize) -> bool
 
 // Whether all pairs of channel c are in their ranges.
 fn pairs_inside(table: &[u8], c: usize) -> bool
-    requires { (length table.now ≡ tableSize) × (c < channels) }
-    ensures { result ≡ every (pairInside ((settingsOf ages table.now).channel c).pair) pairs }
+    requires { (length table.now ≡ table_size) × (c < channels) }
+    ensures { result ≡ every (pair_inside ((settings_of ages table.now).channel c).pair) pairs }
 {
     for j in 0..SHELF_PAIRS {
         if !pair_inside(table, c, j) {
@@ -377,7 +377,7 @@ fn pairs_inside(table: &[u8], c: usize) -> bool
 }
 
 fn row_count(rows: Rows) -> usize
-    ensures { result ≡ rowCount rows }
+    ensures { result ≡ row_count rows }
 {
     match rows {
         Rows::OfThermometers => THERMOMETERS,
@@ -387,8 +387,8 @@ fn row_count(rows: Rows) -> usize
 }
 
 fn row_inside(table: &[u8], rows: Rows, i: usize) -> bool
-    requires { (length table.now ≡ tableSize) × (i < rowCount rows) }
-    ensures { result ≡ rowInside (settingsOf ages table.now) rows i }
+    requires { (length table.now ≡ table_size) × (i < row_count rows) }
+    ensures { result ≡ row_inside (settings_of ages table.now) rows i }
 {
     match rows {
         Rows::OfThermometers => thermometer_inside(table, i),
@@ -398,8 +398,8 @@ fn row_inside(table: &[u8], rows: Rows, i: usize) -> bool
 }
 
 fn rows_inside(table: &[u8], rows: Rows) -> bool
-    requires { length table.now ≡ tableSize }
-    ensures { result ≡ every (rowInside (settingsOf ages table.now) rows) (rowCount rows) }
+    requires { length table.now ≡ table_size }
+    ensures { result ≡ every (row_inside (settings_of ages table.now) rows) (row_count rows) }
 {
     for i in 0..row_count(rows) {
         if !row_inside(table, rows, i) {
@@ -425,30 +425,30 @@ fn byte_sum(table: &[u8], at: usize, step: usize, n: usize) -> u32
 
 // The sums of the w, of the v and of the p of a target.
 pub fn sum_w(table: &[u8]) -> u32
-    requires { length table.now ≡ tableSize }
-    ensures { result ≡ sum (settingsOf ages table.now).w ages }
+    requires { length table.now ≡ table_size }
+    ensures { result ≡ sum (settings_of ages table.now).w ages }
 {
     byte_sum(table, COUNT_WEIGHTS_AT, 1, AGES)
 }
 
 pub fn sum_v(table: &[u8]) -> u32
-    requires { length table.now ≡ tableSize }
-    ensures { result ≡ sum (settingsOf ages table.now).v ages }
+    requires { length table.now ≡ table_size }
+    ensures { result ≡ sum (settings_of ages table.now).v ages }
 {
     byte_sum(table, THERMOMETER_WEIGHTS_AT, 1, AGES)
 }
 
 pub fn sum_p(table: &[u8], target: Target) -> u32
-    requires { length table.now ≡ tableSize }
-    ensures { result ≡ weightOf (settingsOf ages table.now) target }
+    requires { length table.now ≡ table_size }
+    ensures { result ≡ weight_of (settings_of ages table.now) target }
 {
     let at = THERMOMETERS_AT + THERMOMETER_ROW * instrument::first_of(target);
     byte_sum(table, at, THERMOMETER_ROW, instrument::size_of(target))
 }
 
 fn sums_inside(table: &[u8]) -> bool
-    requires { length table.now ≡ tableSize }
-    ensures { result ≡ sumsInside (settingsOf ages table.now) }
+    requires { length table.now ≡ table_size }
+    ensures { result ≡ sums_inside (settings_of ages table.now) }
 {
     let tests = [
         from_to(1, 255, sum_w(table)),
@@ -460,8 +460,8 @@ fn sums_inside(table: &[u8]) -> bool
 }
 
 fn values_inside(table: &[u8]) -> bool
-    requires { length table.now ≡ tableSize }
-    ensures { result ≡ valuesInside (settingsOf ages table.now) }
+    requires { length table.now ≡ table_size }
+    ensures { result ≡ values_inside (settings_of ages table.now) }
 {
     let tests = [
         leasts_inside(table),
@@ -476,7 +476,7 @@ fn values_inside(table: &[u8]) -> bool
 
 // Document 01's number for an answer; 0 for an accepted table.
 pub fn refusal_number(answer: Opening) -> u8
-    ensures { result ≡ number_of (verdictOf answer) }
+    ensures { result ≡ number_of (verdict_of answer) }
 {
     match answer {
         Opening::Accepted => 0,
@@ -488,7 +488,7 @@ pub fn refusal_number(answer: Opening) -> u8
 
 // A refusal gives no table: its bytes are all 0.
 fn refused(answer: Opening) -> Opened
-    ensures { (result.answer ≡ answer) × (result.table.bytes ≡ replicate tableSize 0) }
+    ensures { (result.answer ≡ answer) × (result.table.bytes ≡ replicate table_size 0) }
 {
     Opened {
         answer,
@@ -500,7 +500,7 @@ fn refused(answer: Opening) -> Opened
 
 // Opening a table: any bytes.
 pub fn open(bytes: &[u8]) -> Opened
-    ensures { (verdictOf result.answer ≡ opening bytes.now) × (result.table.bytes ≡ tableBy (opening bytes.now) bytes.now) }
+    ensures { (verdict_of result.answer ≡ opening bytes.now) × (result.table.bytes ≡ table_by (opening bytes.now) bytes.now) }
 {
     if bytes.len() != TABLE_SIZE {
         return refused(Opening::LengthWrong);

@@ -1,16 +1,16 @@
 -- The proof of the theorem: for each field the law that proves it. And that each field is the statement itself, with no premise before it.
-use Rattle.integers.proofs.Nearest.{r-is-nearest-even}
-use Rattle.thermometer.proofs.Bracketing.{answers-bracketed}
-use Rattle.thermometer.proofs.EquationNear.{F-near-equation}
-use Rattle.promise.proofs.Demand.{demand-three}
+use Rattle.integers.proofs.Nearest.{r_is_nearest_even}
+use Rattle.thermometer.proofs.Bracketing.{answers_bracketed}
+use Rattle.thermometer.proofs.EquationNear.{F_near_equation}
+use Rattle.promise.proofs.Demand.{demand_three}
 use Rattle.promise.proofs.RestartLaws.{restart}
-use Rattle.promise.proofs.WithoutBiasLaws.{without-bias}
-use Rattle.promise.proofs.SceneClaims.{distance-before-bias}
-use Rattle.promise.proofs.SameScenesLaws.{same-scenes, scenes-shown}
-use Rattle.promise.proofs.CountLaws.{counts_behind, answers-say, higher-count-higher-t, same-after-restart}
-use Rattle.promise.proofs.ThermometerLaws.{fed-thermometers-bracketed}
-use Rattle.feeds.proofs.FeedListRuns.{demand-three-in-one-call}
-use Rattle.live.proofs.StateRuns.{demand-three-by-states}
+use Rattle.promise.proofs.WithoutBiasLaws.{without_bias_lem}
+use Rattle.promise.proofs.SceneClaims.{distance_before_bias}
+use Rattle.promise.proofs.SameScenesLaws.{same_scenes, scenes_shown}
+use Rattle.promise.proofs.CountLaws.{counts_behind, answers_say, higher_count_higher_t, same_after_restart}
+use Rattle.promise.proofs.ThermometerLaws.{fed_thermometers_bracketed}
+use Rattle.feeds.proofs.FeedListRuns.{demand_three_in_one_call}
+use Rattle.live.proofs.StateRuns.{demand_three_by_states}
 use Rattle.integers.specs.NearestEven.{RIsNearestEven}
 use Rattle.thermometer.specs.Equations.{AnswersBracketed, FNearEquation}
 use Rattle.promise.specs.Promise.{DemandThree}
@@ -26,42 +26,42 @@ use Rattle.theorem.specs.Theorem.{Theorem}
 
 pub theorem : Theorem
 theorem = record {
-  demand-three = demand-three;
-  demand-three-in-one-call = demand-three-in-one-call;
-  demand-three-by-states = demand-three-by-states;
+  demand_three = demand_three;
+  demand_three_in_one_call = demand_three_in_one_call;
+  demand_three_by_states = demand_three_by_states;
   restarts = restart;
-  without-bias = without-bias;
-  same-scenes = same-scenes;
-  scenes-shown = scenes-shown;
-  distance-before-bias = distance-before-bias;
+  without_bias_lem = without_bias_lem;
+  same_scenes = same_scenes;
+  scenes_shown = scenes_shown;
+  distance_before_bias = distance_before_bias;
   counts_behind = counts_behind;
-  answers-say = answers-say;
-  higher-count-higher-t = higher-count-higher-t;
-  same-after-restart = same-after-restart;
-  r-is-nearest-even = r-is-nearest-even;
-  answers-bracketed = answers-bracketed;
-  F-near-equation = F-near-equation;
-  fed-thermometers-bracketed = fed-thermometers-bracketed;
+  answers_say = answers_say;
+  higher_count_higher_t = higher_count_higher_t;
+  same_after_restart = same_after_restart;
+  r_is_nearest_even = r_is_nearest_even;
+  answers_bracketed = answers_bracketed;
+  F_near_equation = F_near_equation;
+  fed_thermometers_bracketed = fed_thermometers_bracketed;
 }
 
-pub theorem-says : Theorem
+pub theorem_says : Theorem
     → DemandThree × DemandThreeInOneCall × DemandThreeByStates × Restarts × WithoutBias × SameScenes × ScenesShown × DistanceBeforeBias
     × CountsBehind × AnswersSay × HigherCountHigherT × SameAfterRestart × RIsNearestEven × AnswersBracketed × FNearEquation × FedThermometersBracketed
-theorem-says t = (
-  t.demand-three,
-  t.demand-three-in-one-call,
-  t.demand-three-by-states,
+theorem_says t = (
+  t.demand_three,
+  t.demand_three_in_one_call,
+  t.demand_three_by_states,
   t.restarts,
-  t.without-bias,
-  t.same-scenes,
-  t.scenes-shown,
-  t.distance-before-bias,
+  t.without_bias_lem,
+  t.same_scenes,
+  t.scenes_shown,
+  t.distance_before_bias,
   t.counts_behind,
-  t.answers-say,
-  t.higher-count-higher-t,
-  t.same-after-restart,
-  t.r-is-nearest-even,
-  t.answers-bracketed,
-  t.F-near-equation,
-  t.fed-thermometers-bracketed,
+  t.answers_say,
+  t.higher_count_higher_t,
+  t.same_after_restart,
+  t.r_is_nearest_even,
+  t.answers_bracketed,
+  t.F_near_equation,
+  t.fed_thermometers_bracketed,
 )

@@ -13,26 +13,26 @@ use Rattle.live.specs.Runs.{DemandThreeByStates}
 
 pub record Theorem : Type 0 where
   -- document 01, demand 3: of every list of feeds; of one that is fed in one call; of one that is fed through states
-  pub demand-three : DemandThree
-  pub demand-three-in-one-call : DemandThreeInOneCall
-  pub demand-three-by-states : DemandThreeByStates
+  pub demand_three : DemandThree
+  pub demand_three_in_one_call : DemandThreeInOneCall
+  pub demand_three_by_states : DemandThreeByStates
   -- the restart law: a product depends on the records of its window alone
   pub restarts : Restarts
   -- request W1
-  pub without-bias : WithoutBias
+  pub without_bias_lem : WithoutBias
   -- request W3
-  pub same-scenes : SameScenes
-  pub scenes-shown : ScenesShown
+  pub same_scenes : SameScenes
+  pub scenes_shown : ScenesShown
   -- request W4
-  pub distance-before-bias : DistanceBeforeBias
+  pub distance_before_bias : DistanceBeforeBias
   -- request W5
   pub counts_behind : CountsBehind
-  pub answers-say : AnswersSay
-  pub higher-count-higher-t : HigherCountHigherT
-  pub same-after-restart : SameAfterRestart
+  pub answers_say : AnswersSay
+  pub higher_count_higher_t : HigherCountHigherT
+  pub same_after_restart : SameAfterRestart
   -- request W6
-  pub r-is-nearest-even : RIsNearestEven
+  pub r_is_nearest_even : RIsNearestEven
   -- request W7
-  pub answers-bracketed : AnswersBracketed
-  pub F-near-equation : FNearEquation
-  pub fed-thermometers-bracketed : FedThermometersBracketed
+  pub answers_bracketed : AnswersBracketed
+  pub F_near_equation : FNearEquation
+  pub fed_thermometers_bracketed : FedThermometersBracketed

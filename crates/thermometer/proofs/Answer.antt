@@ -6,12 +6,12 @@ use native.Mathlib.Decide.{dec_le, dec_lt}
 use native.Mathlib.Omega.{arith}
 use lib.IntN.{ℤ}
 use lib.Signed.{◌≤ℤ◌, ◌<ℤ◌, le_z, clash_ℤ}
-use Rattle.integers.proofs.Order.{at-most-trans, leZ-true, at-most-test}
-use Rattle.thermometer.specs.Rule.{F, lowestUnits, unitsAtPlace, greatest, answer, Greatest}
+use Rattle.integers.proofs.Order.{at_most_trans, le_z_true, at_most_test}
+use Rattle.thermometer.specs.Rule.{F, lowest_units, units_at_place, greatest, answer, Greatest}
 use Rattle.thermometer.specs.Steps.{AllReachedBefore}
 use Rattle.thermometer.specs.Ranges.{Admissible}
-use Rattle.thermometer.proofs.Rises.{rises-over}
-use Rattle.thermometer.proofs.Places.{place-in-range, place_of, place-of, place-at-most, units-order}
+use Rattle.thermometer.proofs.Rises.{rises_over}
+use Rattle.thermometer.proofs.Places.{place_in_range, place_of, place_of_lem, place_at_most, units_order}
 
 -- ---- the greatest place at which a test holds
 -- k is from 0 to n, no later place of these passes, and k passes if any does
@@ -39,49 +39,49 @@ last_step holds n k false e ih = record {
   passes = λ j h p. ih.passes j (earlier holds n e j h p) p;
 }
 
-greatest-last : (holds : ℕ → Bool) (n : ℕ) → Last holds n (greatest holds n)
+greatest_last : (holds : ℕ → Bool) (n : ℕ) → Last holds n (greatest holds n)
 unfolding greatest
-greatest-last holds zero = record {
+greatest_last holds zero = record {
   at_most = omega arith;
   most = λ j h _. h;
   passes = λ j h p. let same : j ≡ 0 = omega arith in ap holds (sym same) ∙ p;
 }
-greatest-last holds (suc n) = last_step holds n (greatest holds n) (holds (suc n)) refl (greatest-last holds n)
+greatest_last holds (suc n) = last_step holds n (greatest holds n) (holds (suc n)) refl (greatest_last holds n)
 
 -- ---- the answer
 module _ (alpha delta beta : ℕ) (m : ℤ) where
   -- place k is reached
   abbrev is_reached : ℕ → Bool
-  is_reached k = le_z (F alpha delta beta (unitsAtPlace k)) m
+  is_reached k = le_z (F alpha delta beta (units_at_place k)) m
 
   -- the place of the answer
   place : Last is_reached 491520 (greatest is_reached 491520)
-  place = greatest-last is_reached 491520
+  place = greatest_last is_reached 491520
 
   -- a place that is reached, and none after it, is the answer's
-  pub answer-is : {k : ℕ} → k ≤ 491520 → F alpha delta beta (unitsAtPlace k) ≤ℤ m
-      → ((j : ℕ) → j ≤ 491520 → F alpha delta beta (unitsAtPlace j) ≤ℤ m → j ≤ k) → answer alpha delta beta m ≡ unitsAtPlace k
+  pub answer_is : {k : ℕ} → k ≤ 491520 → F alpha delta beta (units_at_place k) ≤ℤ m
+      → ((j : ℕ) → j ≤ 491520 → F alpha delta beta (units_at_place j) ≤ℤ m → j ≤ k) → answer alpha delta beta m ≡ units_at_place k
   unfolding answer
-  answer-is {k} h reached last =
-      let here = at-most-test reached in
+  answer_is {k} h reached last =
+      let here = at_most_test reached in
       let same : greatest is_reached 491520 ≡ k
-      = omega (arith, place.most k h here, last (greatest is_reached 491520) place.at_most (leZ-true (place.passes k h here))) in
-      ap unitsAtPlace same
+      = omega (arith, place.most k h here, last (greatest is_reached 491520) place.at_most (le_z_true (place.passes k h here))) in
+      ap units_at_place same
 
-  pub answer-greatest : F alpha delta beta lowestUnits ≤ℤ m → Greatest alpha delta beta m (answer alpha delta beta m)
+  pub answer_greatest : F alpha delta beta lowest_units ≤ℤ m → Greatest alpha delta beta m (answer alpha delta beta m)
   unfolding answer
-  answer-greatest low = record {
-    inside = place-in-range place.at_most;
-    reached = leZ-true (place.passes 0 (omega arith) (at-most-test low));
-    most = λ u range h. subst (λ t. t ≤ℤ unitsAtPlace (greatest is_reached 491520)) (place-of range) (units-order (place.most (place_of u) (place-at-most range) (at-most-test (subst (λ t. F alpha delta beta t ≤ℤ m) (sym (place-of range)) h))));
+  answer_greatest low = record {
+    inside = place_in_range place.at_most;
+    reached = le_z_true (place.passes 0 (omega arith) (at_most_test low));
+    most = λ u range h. subst (λ t. t ≤ℤ units_at_place (greatest is_reached 491520)) (place_of_lem range) (units_order (place.most (place_of u) (place_at_most range) (at_most_test (subst (λ t. F alpha delta beta t ≤ℤ m) (sym (place_of_lem range)) h))));
   }
 
 -- ---- F rises, so one place that isn't reached bounds all that are
-pub reached-before : {alpha delta beta : ℕ} {m : ℤ} → Admissible alpha delta beta → (past : ℕ) → past ≤ 491520 → m <ℤ F alpha delta beta (unitsAtPlace past) → AllReachedBefore alpha delta beta m past
-reached-before admissible past inside above j h reached = go (dec_lt j past)
+pub reached_before : {alpha delta beta : ℕ} {m : ℤ} → Admissible alpha delta beta → (past : ℕ) → past ≤ 491520 → m <ℤ F alpha delta beta (units_at_place past) → AllReachedBefore alpha delta beta m past
+reached_before admissible past inside above j h reached = go (dec_lt j past)
   where
     go : Dec (j < past) → j < past
     go (yes before) = before
     go (no after) =
         let from : past ≤ j = omega arith in
-        clash_ℤ above (at-most-trans (rises-over admissible (place-in-range inside) (place-in-range h) (units-order from)) reached)
+        clash_ℤ above (at_most_trans (rises_over admissible (place_in_range inside) (place_in_range h) (units_order from)) reached)

@@ -9,145 +9,145 @@ use native.Mathlib.Omega.{arith}
 use lib.IntN.{ℤ, pos, negsuc, ◌+ℤ◌, ◌-ℤ◌, ◌*ℤ◌, +ℤ_idr}
 use lib.Signed.{◌≤ℤ◌, ◌<ℤ◌, lt_z, lt_z_yes, ≤ℤ_refl}
 use Rattle.integers.proofs.Ring.{◌:+◌, ◌:-◌, ◌:*◌, opp, ring, #, v0, v1, v2, v3, v4}
-use Rattle.integers.proofs.Linear.{order, parts-equal, sum-parts}
-use Rattle.integers.proofs.Naturals.{natural-at-most, natural-not-negative, natural-of}
-use Rattle.integers.proofs.Order.{at-most-equal, below-at-most, gap, square-not-negative, product-not-negative, ltZ-true, ltZ-false}
-use Rattle.integers.proofs.Certificate.{◌:≤◌, ◌:<◌, hyp, nat, ◌⊕◌, ◌⊗◌, le-by, lt_by, clash-by}
-use Rattle.integers.proofs.Floor.{floor-order, floor-not-negative, floor-rise}
+use Rattle.integers.proofs.Linear.{order, parts_equal, sum_parts}
+use Rattle.integers.proofs.Naturals.{natural_at_most, natural_not_negative, natural_of}
+use Rattle.integers.proofs.Order.{at_most_equal, below_at_most, gap, square_not_negative, product_not_negative, lt_z_true, lt_z_false}
+use Rattle.integers.proofs.Certificate.{◌:≤◌, ◌:<◌, hyp, nat, ◌⊕◌, ◌⊗◌, le_by, lt_by, clash_by}
+use Rattle.integers.proofs.Floor.{floor_order, floor_not_negative, floor_rise}
 use Rattle.integers.specs.Rounding.{floor}
 use Rattle.thermometer.specs.Rule.{q, s1, y, w, h, s2, F, InRange}
 use Rattle.thermometer.specs.Ranges.{Admissible}
 use Rattle.thermometer.proofs.Bounds.{bracket}
 
 -- ---- s2 does not rise
-pub w-not-negative : (t : ℤ) → pos 0 ≤ℤ w t
+pub w_not_negative : (t : ℤ) → pos 0 ≤ℤ w t
 unfolding w
-w-not-negative t = floor-not-negative (t *ℤ t) (lt_z_yes tt) (square-not-negative t)
+w_not_negative t = floor_not_negative (t *ℤ t) (lt_z_yes tt) (square_not_negative t)
 
 -- below 0, q and t² fall or stay, and so does all that is formed of them
 module _ {t : ℤ} (below : t <ℤ pos 0) where
-  pub q-not-negative : pos 0 ≤ℤ q t
+  pub q_not_negative : pos 0 ≤ℤ q t
   unfolding q
-  q-not-negative = (le-by (t ∷ []) ((v0 :< # 0) ∷ []) (# 0) (v0 :* (v0 :- # 409600)) (hyp 0 ⊕ nat 409602 ⊗ hyp 1 ⊕ hyp 1 ⊗ hyp 1) tt below)
+  q_not_negative = (le_by (t ∷ []) ((v0 :< # 0) ∷ []) (# 0) (v0 :* (v0 :- # 409600)) (hyp 0 ⊕ nat 409602 ⊗ hyp 1 ⊕ hyp 1 ⊗ hyp 1) tt below)
 
-  pub q-falls : q (t +ℤ pos 1) ≤ℤ q t
+  pub q_falls : q (t +ℤ pos 1) ≤ℤ q t
   unfolding q
-  q-falls = (le-by (t ∷ []) ((v0 :< # 0) ∷ []) ((v0 :+ # 1) :* (v0 :+ # 1 :- # 409600)) (v0 :* (v0 :- # 409600)) (hyp 0 ⊕ nat 2 ⊗ hyp 1) tt below)
+  q_falls = (le_by (t ∷ []) ((v0 :< # 0) ∷ []) ((v0 :+ # 1) :* (v0 :+ # 1 :- # 409600)) (v0 :* (v0 :- # 409600)) (hyp 0 ⊕ nat 2 ⊗ hyp 1) tt below)
 
-  pub square-falls : ((t +ℤ pos 1) *ℤ (t +ℤ pos 1)) ≤ℤ (t *ℤ t)
-  square-falls = (le-by (t ∷ []) ((v0 :< # 0) ∷ []) ((v0 :+ # 1) :* (v0 :+ # 1)) (v0 :* v0) (hyp 0 ⊕ nat 2 ⊗ hyp 1) tt below)
+  pub square_falls : ((t +ℤ pos 1) *ℤ (t +ℤ pos 1)) ≤ℤ (t *ℤ t)
+  square_falls = (le_by (t ∷ []) ((v0 :< # 0) ∷ []) ((v0 :+ # 1) :* (v0 :+ # 1)) (v0 :* v0) (hyp 0 ⊕ nat 2 ⊗ hyp 1) tt below)
 
-  pub y-not-negative : pos 0 ≤ℤ y t
+  pub y_not_negative : pos 0 ≤ℤ y t
   unfolding y
-  y-not-negative = floor-not-negative (q t) (lt_z_yes tt) q-not-negative
+  y_not_negative = floor_not_negative (q t) (lt_z_yes tt) q_not_negative
 
-  y-falls : y (t +ℤ pos 1) ≤ℤ y t
+  y_falls : y (t +ℤ pos 1) ≤ℤ y t
   unfolding y
-  y-falls = floor-order (q (t +ℤ pos 1)) (q t) (lt_z_yes tt) q-falls
+  y_falls = floor_order (q (t +ℤ pos 1)) (q t) (lt_z_yes tt) q_falls
 
-  w-falls : w (t +ℤ pos 1) ≤ℤ w t
+  w_falls : w (t +ℤ pos 1) ≤ℤ w t
   unfolding w
-  w-falls = floor-order ((t +ℤ pos 1) *ℤ (t +ℤ pos 1)) (t *ℤ t) (lt_z_yes tt) square-falls
+  w_falls = floor_order ((t +ℤ pos 1) *ℤ (t +ℤ pos 1)) (t *ℤ t) (lt_z_yes tt) square_falls
 
-  yw-falls : (y (t +ℤ pos 1) *ℤ w (t +ℤ pos 1)) ≤ℤ (y t *ℤ w t)
-  yw-falls = (le-by ((y t) ∷ (w t) ∷ (y (t +ℤ pos 1)) ∷ (w (t +ℤ pos 1)) ∷ []) ((# 0 :≤ v0) ∷ (# 0 :≤ v3) ∷ (v2 :≤ v0) ∷ (v3 :≤ v1) ∷ []) (v2 :* v3) (v0 :* v1) (hyp 0 ⊕ hyp 1 ⊗ hyp 4 ⊕ hyp 2 ⊗ hyp 3) tt y-not-negative (w-not-negative (t +ℤ pos 1)) y-falls w-falls)
+  yw_falls : (y (t +ℤ pos 1) *ℤ w (t +ℤ pos 1)) ≤ℤ (y t *ℤ w t)
+  yw_falls = (le_by ((y t) ∷ (w t) ∷ (y (t +ℤ pos 1)) ∷ (w (t +ℤ pos 1)) ∷ []) ((# 0 :≤ v0) ∷ (# 0 :≤ v3) ∷ (v2 :≤ v0) ∷ (v3 :≤ v1) ∷ []) (v2 :* v3) (v0 :* v1) (hyp 0 ⊕ hyp 1 ⊗ hyp 4 ⊕ hyp 2 ⊗ hyp 3) tt y_not_negative (w_not_negative (t +ℤ pos 1)) y_falls w_falls)
 
-  h-not-negative : pos 0 ≤ℤ h t
+  h_not_negative : pos 0 ≤ℤ h t
   unfolding h
-  h-not-negative = floor-not-negative (y t *ℤ w t) (lt_z_yes tt) (product-not-negative y-not-negative (w-not-negative t))
+  h_not_negative = floor_not_negative (y t *ℤ w t) (lt_z_yes tt) (product_not_negative y_not_negative (w_not_negative t))
 
-  h-falls : h (t +ℤ pos 1) ≤ℤ h t
+  h_falls : h (t +ℤ pos 1) ≤ℤ h t
   unfolding h
-  h-falls = floor-order (y (t +ℤ pos 1) *ℤ w (t +ℤ pos 1)) (y t *ℤ w t) (lt_z_yes tt) yw-falls
+  h_falls = floor_order (y (t +ℤ pos 1) *ℤ w (t +ℤ pos 1)) (y t *ℤ w t) (lt_z_yes tt) yw_falls
 
-  beta-h-falls : (beta : ℕ) → (pos beta *ℤ h (t +ℤ pos 1)) ≤ℤ (pos beta *ℤ h t)
-  beta-h-falls beta = (le-by ((pos beta) ∷ (h t) ∷ (h (t +ℤ pos 1)) ∷ []) ((# 0 :≤ v0) ∷ (v2 :≤ v1) ∷ []) (v0 :* v2) (v0 :* v1) (hyp 0 ⊕ hyp 1 ⊗ hyp 2) tt (natural-not-negative beta) h-falls)
+  beta_h_falls : (beta : ℕ) → (pos beta *ℤ h (t +ℤ pos 1)) ≤ℤ (pos beta *ℤ h t)
+  beta_h_falls beta = (le_by ((pos beta) ∷ (h t) ∷ (h (t +ℤ pos 1)) ∷ []) ((# 0 :≤ v0) ∷ (v2 :≤ v1) ∷ []) (v0 :* v2) (v0 :* v1) (hyp 0 ⊕ hyp 1 ⊗ hyp 2) tt (natural_not_negative beta) h_falls)
 
 -- what counts below 0 alone, is not negative there and does not rise there, does not rise anywhere
 module _ (f : ℤ → ℤ) (not_negative : (t : ℤ) → t <ℤ pos 0 → pos 0 ≤ℤ f t) (falls : (t : ℤ) → t <ℤ pos 0 → f (t +ℤ pos 1) ≤ℤ f t) where
   -- the two tests are whether t, and whether t + 1, is below 0
-  by_tests : (t : ℤ) (now after : Bool) → lt_z t (pos 0) ≡ now → lt_z (t +ℤ pos 1) (pos 0) ≡ after → cond after (f (t +ℤ pos 1)) (pos 0) ≤ℤ cond now (f t) (pos 0)
-  by_tests t true true e g = falls t (ltZ-true e)
-  by_tests t true false e g = not_negative t (ltZ-true e)
-  by_tests t false true e g = absurd (clash-by (t ∷ []) ((# 0 :≤ v0) ∷ (v0 :+ # 1 :< # 0) ∷ []) (hyp 0 ⊕ hyp 1) tt (ltZ-false e) (ltZ-true g))
-  by_tests t false false e g = ≤ℤ_refl (pos 0)
+  by_tests_lem : (t : ℤ) (now after : Bool) → lt_z t (pos 0) ≡ now → lt_z (t +ℤ pos 1) (pos 0) ≡ after → cond after (f (t +ℤ pos 1)) (pos 0) ≤ℤ cond now (f t) (pos 0)
+  by_tests_lem t true true e g = falls t (lt_z_true e)
+  by_tests_lem t true false e g = not_negative t (lt_z_true e)
+  by_tests_lem t false true e g = absurd (clash_by (t ∷ []) ((# 0 :≤ v0) ∷ (v0 :+ # 1 :< # 0) ∷ []) (hyp 0 ⊕ hyp 1) tt (lt_z_false e) (lt_z_true g))
+  by_tests_lem t false false e g = ≤ℤ_refl (pos 0)
 
-  pub counted-below-zero-does-not-rise : (t : ℤ) → cond (lt_z (t +ℤ pos 1) (pos 0)) (f (t +ℤ pos 1)) (pos 0) ≤ℤ cond (lt_z t (pos 0)) (f t) (pos 0)
-  counted-below-zero-does-not-rise t = by_tests t (lt_z t (pos 0)) (lt_z (t +ℤ pos 1) (pos 0)) refl refl
+  pub counted_below_zero_does_not_rise : (t : ℤ) → cond (lt_z (t +ℤ pos 1) (pos 0)) (f (t +ℤ pos 1)) (pos 0) ≤ℤ cond (lt_z t (pos 0)) (f t) (pos 0)
+  counted_below_zero_does_not_rise t = by_tests_lem t (lt_z t (pos 0)) (lt_z (t +ℤ pos 1) (pos 0)) refl refl
 
-s2-does-not-rise : (beta : ℕ) (t : ℤ) → s2 beta (t +ℤ pos 1) ≤ℤ s2 beta t
+s2_does_not_rise : (beta : ℕ) (t : ℤ) → s2 beta (t +ℤ pos 1) ≤ℤ s2 beta t
 unfolding s2
-s2-does-not-rise beta t =
-    counted-below-zero-does-not-rise (λ u. floor (pos beta *ℤ h u) (pos 16000000))
-    (λ u below. floor-not-negative (pos beta *ℤ h u) (lt_z_yes tt) (product-not-negative (natural-not-negative beta) (h-not-negative below)))
-    (λ u below. floor-order (pos beta *ℤ h (u +ℤ pos 1)) (pos beta *ℤ h u) (lt_z_yes tt) (beta-h-falls below beta)) t
+s2_does_not_rise beta t =
+    counted_below_zero_does_not_rise (λ u. floor (pos beta *ℤ h u) (pos 16000000))
+    (λ u below. floor_not_negative (pos beta *ℤ h u) (lt_z_yes tt) (product_not_negative (natural_not_negative beta) (h_not_negative below)))
+    (λ u below. floor_order (pos beta *ℤ h (u +ℤ pos 1)) (pos beta *ℤ h u) (lt_z_yes tt) (beta_h_falls below beta)) t
 
 -- ---- from t to t + 1
 module _ (t : ℤ) (next : InRange (t +ℤ pos 1)) where
-  q-rises : q (t +ℤ pos 1) ≤ℤ (q t +ℤ pos 81919)
+  q_rises : q (t +ℤ pos 1) ≤ℤ (q t +ℤ pos 81919)
   unfolding q
-  q-rises = (le-by (t ∷ []) ((v0 :+ # 1 :≤ # 245760) ∷ []) ((v0 :+ # 1) :* (v0 :+ # 1 :- # 409600)) (v0 :* (v0 :- # 409600) :+ # 81919) (hyp 0 ⊕ nat 2 ⊗ hyp 1) tt next.high)
+  q_rises = (le_by (t ∷ []) ((v0 :+ # 1 :≤ # 245760) ∷ []) ((v0 :+ # 1) :* (v0 :+ # 1 :- # 409600)) (v0 :* (v0 :- # 409600) :+ # 81919) (hyp 0 ⊕ nat 2 ⊗ hyp 1) tt next.high)
 
   module _ {alpha delta beta : ℕ} (admissible : Admissible alpha delta beta) where
-    s1-rises : s1 delta (t +ℤ pos 1) ≤ℤ (s1 delta t +ℤ pos 2)
+    s1_rises : s1 delta (t +ℤ pos 1) ≤ℤ (s1 delta t +ℤ pos 2)
     unfolding s1
-    s1-rises =
-        floor-rise (pos 2) (pos delta *ℤ q t) (pos delta *ℤ q (t +ℤ pos 1)) (lt_z_yes tt)
-        (le-by ((pos delta) ∷ (q t) ∷ (q (t +ℤ pos 1)) ∷ []) ((# 0 :≤ v0) ∷ (v0 :≤ # 2000000) ∷ (v2 :≤ v1 :+ # 81919) ∷ []) (v0 :* v2) (v0 :* v1 :+ # 2 :* # 160000000000) (hyp 0 ⊕ nat 81919 ⊗ hyp 2 ⊕ hyp 1 ⊗ hyp 3) tt (natural-not-negative delta) (natural-at-most admissible.delta-high) q-rises)
+    s1_rises =
+        floor_rise (pos 2) (pos delta *ℤ q t) (pos delta *ℤ q (t +ℤ pos 1)) (lt_z_yes tt)
+        (le_by ((pos delta) ∷ (q t) ∷ (q (t +ℤ pos 1)) ∷ []) ((# 0 :≤ v0) ∷ (v0 :≤ # 2000000) ∷ (v2 :≤ v1 :+ # 81919) ∷ []) (v0 :* v2) (v0 :* v1 :+ # 2 :* # 160000000000) (hyp 0 ⊕ nat 81919 ⊗ hyp 2 ⊕ hyp 1 ⊗ hyp 3) tt (natural_not_negative delta) (natural_at_most admissible.delta-high) q_rises)
 
-    bracket-rises : (bracket delta beta t +ℤ pos 254) ≤ℤ bracket delta beta (t +ℤ pos 1)
-    bracket-rises = (le-by (t ∷ (s1 delta t) ∷ (s2 beta t) ∷ (s1 delta (t +ℤ pos 1)) ∷ (s2 beta (t +ℤ pos 1)) ∷ []) ((v3 :≤ v1 :+ # 2) ∷ (v4 :≤ v2) ∷ []) (# 256 :* v0 :- v1 :- v2 :+ # 254) (# 256 :* (v0 :+ # 1) :- v3 :- v4) (hyp 0 ⊕ hyp 1 ⊕ hyp 2) tt s1-rises (s2-does-not-rise beta t))
+    bracket_rises : (bracket delta beta t +ℤ pos 254) ≤ℤ bracket delta beta (t +ℤ pos 1)
+    bracket_rises = (le_by (t ∷ (s1 delta t) ∷ (s2 beta t) ∷ (s1 delta (t +ℤ pos 1)) ∷ (s2 beta (t +ℤ pos 1)) ∷ []) ((v3 :≤ v1 :+ # 2) ∷ (v4 :≤ v2) ∷ []) (# 256 :* v0 :- v1 :- v2 :+ # 254) (# 256 :* (v0 :+ # 1) :- v3 :- v4) (hyp 0 ⊕ hyp 1 ⊕ hyp 2) tt s1_rises (s2_does_not_rise beta t))
 
-    pub rises-by-twelve : (F alpha delta beta t +ℤ pos 12) ≤ℤ F alpha delta beta (t +ℤ pos 1)
+    pub rises_by_twelve : (F alpha delta beta t +ℤ pos 12) ≤ℤ F alpha delta beta (t +ℤ pos 1)
     unfolding F
-    rises-by-twelve =
+    rises_by_twelve =
         let a = pos alpha in
         let g = bracket delta beta t in
         let k = bracket delta beta (t +ℤ pos 1) in
         let falls : (a *ℤ g) ≤ℤ (a *ℤ k +ℤ negsuc 11 *ℤ pos 62500000)
-        = (le-by (a ∷ g ∷ k ∷ []) ((# 3000000 :≤ v0) ∷ (v1 :+ # 254 :≤ v2) ∷ []) (v0 :* v1) (v0 :* v2 :+ opp (# 12) :* # 62500000) (hyp 0 ⊕ nat 254 ⊗ hyp 1 ⊕ nat 3000000 ⊗ hyp 2 ⊕ hyp 1 ⊗ hyp 2) tt (natural-at-most admissible.alpha-low) bracket-rises) in
-        (le-by ((floor (a *ℤ g) (pos 62500000)) ∷ (floor (a *ℤ k) (pos 62500000)) ∷ []) ((v0 :≤ v1 :+ opp (# 12)) ∷ []) (# 16777216 :+ v0 :+ # 12) (# 16777216 :+ v1) (hyp 0 ⊕ hyp 1) tt (floor-rise (negsuc 11) (a *ℤ k) (a *ℤ g) (lt_z_yes tt) falls))
+        = (le_by (a ∷ g ∷ k ∷ []) ((# 3000000 :≤ v0) ∷ (v1 :+ # 254 :≤ v2) ∷ []) (v0 :* v1) (v0 :* v2 :+ opp (# 12) :* # 62500000) (hyp 0 ⊕ nat 254 ⊗ hyp 1 ⊕ nat 3000000 ⊗ hyp 2 ⊕ hyp 1 ⊗ hyp 2) tt (natural_at_most admissible.alpha_low) bracket_rises) in
+        (le_by ((floor (a *ℤ g) (pos 62500000)) ∷ (floor (a *ℤ k) (pos 62500000)) ∷ []) ((v0 :≤ v1 :+ opp (# 12)) ∷ []) (# 16777216 :+ v0 :+ # 12) (# 16777216 :+ v1) (hyp 0 ⊕ hyp 1) tt (floor_rise (negsuc 11) (a *ℤ k) (a *ℤ g) (lt_z_yes tt) falls))
 
     pub rises : F alpha delta beta t <ℤ F alpha delta beta (t +ℤ pos 1)
     rises =
-        (lt_by ((F alpha delta beta t) ∷ (F alpha delta beta (t +ℤ pos 1)) ∷ []) ((v0 :+ # 12 :≤ v1) ∷ []) v0 v1 (hyp 0 ⊕ hyp 1) tt rises-by-twelve)
+        (lt_by ((F alpha delta beta t) ∷ (F alpha delta beta (t +ℤ pos 1)) ∷ []) ((v0 :+ # 12 :≤ v1) ∷ []) v0 v1 (hyp 0 ⊕ hyp 1) tt rises_by_twelve)
 
 -- ---- over any distance
 one_more : (u : ℤ) (n : ℕ) → u +ℤ pos (suc n) ≡ u +ℤ pos n +ℤ pos 1
-one_more u n = parts-equal (u +ℤ pos (suc n)) (u +ℤ pos n +ℤ pos 1) (omega (arith, sum-parts u (pos (suc n)), sum-parts u (pos n), sum-parts (u +ℤ pos n) (pos 1)))
+one_more u n = parts_equal (u +ℤ pos (suc n)) (u +ℤ pos n +ℤ pos 1) (omega (arith, sum_parts u (pos (suc n)), sum_parts u (pos n), sum_parts (u +ℤ pos n) (pos 1)))
 
-between-in-range : {u : ℤ} (n : ℕ) → InRange u → InRange (u +ℤ pos (suc n)) → InRange (u +ℤ pos n)
-between-in-range {u} n low high = omega (arith, order, sum-parts u (pos n), sum-parts u (pos (suc n)))
+between_in_range : {u : ℤ} (n : ℕ) → InRange u → InRange (u +ℤ pos (suc n)) → InRange (u +ℤ pos n)
+between_in_range {u} n low high = omega (arith, order, sum_parts u (pos n), sum_parts u (pos (suc n)))
 
 module _ {alpha delta beta : ℕ} (admissible : Admissible alpha delta beta) where
-  rises-along : {u : ℤ} (n : ℕ) → InRange u → InRange (u +ℤ pos n) → (F alpha delta beta u +ℤ pos n) ≤ℤ F alpha delta beta (u +ℤ pos n)
-  rises-along {u} zero low high = at-most-equal (+ℤ_idr (F alpha delta beta u) ∙ ap (F alpha delta beta) (sym (+ℤ_idr u)))
-  rises-along {u} (suc n) low high =
+  rises_along : {u : ℤ} (n : ℕ) → InRange u → InRange (u +ℤ pos n) → (F alpha delta beta u +ℤ pos n) ≤ℤ F alpha delta beta (u +ℤ pos n)
+  rises_along {u} zero low high = at_most_equal (+ℤ_idr (F alpha delta beta u) ∙ ap (F alpha delta beta) (sym (+ℤ_idr u)))
+  rises_along {u} (suc n) low high =
       let f = F alpha delta beta u in
-      let between = between-in-range n low high in
+      let between = between_in_range n low high in
       rw (one_more u n)
       (omega (
         arith,
         order,
-        sum-parts f (pos n),
-        sum-parts f (pos (suc n)),
-        rises-along n low between,
+        sum_parts f (pos n),
+        sum_parts f (pos (suc n)),
+        rises_along n low between,
         rises (u +ℤ pos n) (subst InRange (one_more u n) high) admissible,
       ))
 
   -- F rises by at least the distance
-  pub rises-at-least : {u v : ℤ} → InRange u → InRange v → u ≤ℤ v → (F alpha delta beta u +ℤ (v -ℤ u)) ≤ℤ F alpha delta beta v
-  rises-at-least {u} {v} low high above =
-      let n = natural-of (gap above) in
+  pub rises_at_least : {u v : ℤ} → InRange u → InRange v → u ≤ℤ v → (F alpha delta beta u +ℤ (v -ℤ u)) ≤ℤ F alpha delta beta v
+  rises_at_least {u} {v} low high above =
+      let n = natural_of (gap above) in
       let there : u +ℤ (v -ℤ u) ≡ v = (ring (u ∷ v ∷ []) (v0 :+ (v1 :- v0)) v1 tt) in
       subst (λ x. (F alpha delta beta u +ℤ (v -ℤ u)) ≤ℤ F alpha delta beta x) there
       (subst (λ d. (F alpha delta beta u +ℤ d) ≤ℤ F alpha delta beta (u +ℤ d)) (sym n.1)
-      (rises-along n.0 low (subst (λ d. InRange (u +ℤ d)) n.1 (subst InRange (sym there) high))))
+      (rises_along n.0 low (subst (λ d. InRange (u +ℤ d)) n.1 (subst InRange (sym there) high))))
 
-  pub rises-over : {u v : ℤ} → InRange u → InRange v → u ≤ℤ v → F alpha delta beta u ≤ℤ F alpha delta beta v
-  rises-over {u} {v} low high above =
-      (le-by (u ∷ v ∷ (F alpha delta beta u) ∷ (F alpha delta beta v) ∷ []) ((v0 :≤ v1) ∷ (v2 :+ (v1 :- v0) :≤ v3) ∷ []) v2 v3 (hyp 0 ⊕ hyp 1 ⊕ hyp 2) tt above (rises-at-least low high above))
+  pub rises_over : {u v : ℤ} → InRange u → InRange v → u ≤ℤ v → F alpha delta beta u ≤ℤ F alpha delta beta v
+  rises_over {u} {v} low high above =
+      (le_by (u ∷ v ∷ (F alpha delta beta u) ∷ (F alpha delta beta v) ∷ []) ((v0 :≤ v1) ∷ (v2 :+ (v1 :- v0) :≤ v3) ∷ []) v2 v3 (hyp 0 ⊕ hyp 1 ⊕ hyp 2) tt above (rises_at_least low high above))
 
-  pub rises-strictly : {u v : ℤ} → InRange u → InRange v → u <ℤ v → F alpha delta beta u <ℤ F alpha delta beta v
-  rises-strictly {u} {v} low high above =
-      (lt_by (u ∷ v ∷ (F alpha delta beta u) ∷ (F alpha delta beta v) ∷ []) ((v0 :< v1) ∷ (v2 :+ (v1 :- v0) :≤ v3) ∷ []) v2 v3 (hyp 0 ⊕ hyp 1 ⊕ hyp 2) tt above (rises-at-least low high (below-at-most above)))
+  pub rises_strictly : {u v : ℤ} → InRange u → InRange v → u <ℤ v → F alpha delta beta u <ℤ F alpha delta beta v
+  rises_strictly {u} {v} low high above =
+      (lt_by (u ∷ v ∷ (F alpha delta beta u) ∷ (F alpha delta beta v) ∷ []) ((v0 :< v1) ∷ (v2 :+ (v1 :- v0) :≤ v3) ∷ []) v2 v3 (hyp 0 ⊕ hyp 1 ⊕ hyp 2) tt above (rises_at_least low high (below_at_most above)))

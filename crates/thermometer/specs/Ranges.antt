@@ -3,7 +3,7 @@
 use Rattle.std.specs.Prelude.{ℕ, ◌≤◌}
 
 pub record Admissible (alpha delta beta : ℕ) : Type 0 where
-  pub alpha-low : 3000000 ≤ alpha
+  pub alpha_low : 3000000 ≤ alpha
   pub alpha-high : alpha ≤ 5000000
   pub delta-high : delta ≤ 2000000
   pub beta-high : beta ≤ 500000

@@ -1,10 +1,10 @@
 -- Document 01, "One thermometer".
 use Rattle.std.specs.Prelude.{ℕ, List, [], ◌∷◌, Bool, not, ◌&&◌, leb, ltb, ℤ}
 use Rattle.std.specs.Int.Signed.{lt_z}
-use Rattle.lists.specs.Tests.{Verdict, passes, fails, Test, ◌when◌, firstThatApplies}
+use Rattle.lists.specs.Tests.{Verdict, passes, fails, Test, ◌when◌, first_that_applies}
 use Rattle.thermometer.specs.declared.Reading.{Reading}
 use Rattle.thermometer.specs.declared.Reading.TheVariants.{Units, CoefficientOutside, PamNotAboveOffset, RatioOutside}
-use Rattle.thermometer.specs.Rule.{M, F, answer, lowestUnits, highestUnits}
+use Rattle.thermometer.specs.Rule.{M, F, answer, lowest_units, highest_units}
 
 -- what One thermometer gives: t in units of °C, or the number of its refusal
 pub data Result : Type 0 where
@@ -24,24 +24,24 @@ result_of PamNotAboveOffset = notRead 9
 result_of RatioOutside = notRead 10
 
 -- ---- the ranges of R_PAM and R0 and of the coefficients (document 01, "The table")
-abbrev pub fromTo : ℕ → ℕ → ℕ → Bool
-fromTo low high x = leb low x && leb x high
+abbrev pub from_to : ℕ → ℕ → ℕ → Bool
+from_to low high x = leb low x && leb x high
 
-abbrev pub resistanceInside : ℕ → Bool
-resistanceInside r = fromTo 1000 4000000 r
+abbrev pub resistance_inside : ℕ → Bool
+resistance_inside r = from_to 1000 4000000 r
 
-abbrev pub coefficientsInside : (r0 alpha delta beta : ℕ) → Bool
-coefficientsInside r0 alpha delta beta =
-    resistanceInside r0 && (fromTo 3000000 5000000 alpha && (leb delta 2000000 && leb beta 500000))
+abbrev pub coefficients_inside : (r0 alpha delta beta : ℕ) → Bool
+coefficients_inside r0 alpha delta beta =
+    resistance_inside r0 && (from_to 3000000 5000000 alpha && (leb delta 2000000 && leb beta 500000))
 
 -- 8 if R_PAM or a coefficient is outside, 9 if PAM isn't above offset, 10 if the count is below offset, M below F(-245,760) or M above
 -- F(245,760)
 abbrev pub tests : (rPam r0 alpha delta beta pam offset count : ℕ) → List Test
 tests rPam r0 alpha delta beta pam offset count =
     let m = M rPam r0 pam offset count in
-    (8 when not (resistanceInside rPam && coefficientsInside r0 alpha delta beta))
+    (8 when not (resistance_inside rPam && coefficients_inside r0 alpha delta beta))
     ∷ (9 when leb pam offset)
-    ∷ (10 when ltb count offset) ∷ (10 when lt_z m (F alpha delta beta lowestUnits)) ∷ (10 when lt_z (F alpha delta beta highestUnits) m) ∷ []
+    ∷ (10 when ltb count offset) ∷ (10 when lt_z m (F alpha delta beta lowest_units)) ∷ (10 when lt_z (F alpha delta beta highest_units) m) ∷ []
 
 -- the answer where no test applies, and else the number alone
 abbrev pub result_by : Verdict → ℤ → Result
@@ -50,4 +50,4 @@ result_by (fails n) t = notRead n
 
 unfoldable pub reading : (rPam r0 alpha delta beta pam offset count : ℕ) → Result
 reading rPam r0 alpha delta beta pam offset count =
-    result_by (firstThatApplies (tests rPam r0 alpha delta beta pam offset count)) (answer alpha delta beta (M rPam r0 pam offset count))
+    result_by (first_that_applies (tests rPam r0 alpha delta beta pam offset count)) (answer alpha delta beta (M rPam r0 pam offset count))

@@ -41,15 +41,15 @@ unfoldable pub F : (alpha delta beta : ℕ) → ℤ → ℤ
 F alpha delta beta t = one +ℤ floor (pos alpha *ℤ (pos 256 *ℤ t -ℤ s1 delta t -ℤ s2 beta t)) (pos 62500000)
 
 -- ---- the answer: the greatest t in -245,760..245,760 with F(t) at most M
-abbrev pub lowestUnits : ℤ
-lowestUnits = neg_ℤ (pos 245760)
+abbrev pub lowest_units : ℤ
+lowest_units = neg_ℤ (pos 245760)
 
-abbrev pub highestUnits : ℤ
-highestUnits = pos 245760
+abbrev pub highest_units : ℤ
+highest_units = pos 245760
 
 -- the t at place k of that range; the last place is 491,520
-abbrev pub unitsAtPlace : ℕ → ℤ
-unitsAtPlace k = pos k -ℤ pos 245760
+abbrev pub units_at_place : ℕ → ℤ
+units_at_place k = pos k -ℤ pos 245760
 
 -- the greatest k from 0 to n at which the test holds, and 0 where it holds at none
 unfoldable pub greatest : (ℕ → Bool) → ℕ → ℕ
@@ -57,12 +57,12 @@ greatest holds zero = zero
 greatest holds (suc n) = cond (holds (suc n)) (suc n) (greatest holds n)
 
 unfoldable pub answer : (alpha delta beta : ℕ) → ℤ → ℤ
-answer alpha delta beta m = unitsAtPlace (greatest (λ k. le_z (F alpha delta beta (unitsAtPlace k)) m) 491520)
+answer alpha delta beta m = units_at_place (greatest (λ k. le_z (F alpha delta beta (units_at_place k)) m) 491520)
 
--- ---- the same in words, which the law `answer-greatest` shows of `answer` wherever M is not below F(-245,760)
+-- ---- the same in words, which the law `answer_greatest` shows of `answer` wherever M is not below F(-245,760)
 pub record InRange (t : ℤ) : Type 0 where
-  pub low : lowestUnits ≤ℤ t
-  pub high : t ≤ℤ highestUnits
+  pub low : lowest_units ≤ℤ t
+  pub high : t ≤ℤ highest_units
 
 pub record Greatest (alpha delta beta : ℕ) (m t : ℤ) : Type 0 where
   pub inside : InRange t

@@ -1,10 +1,10 @@
 // Document 01, "Thermometer rule (equations 18, 19)" and "One thermometer".
 ghost use Rattle.std.specs.Prelude.{◌≡◌, ◌≤◌, ◌<◌, pos, ◌+ℤ◌, ◌≤ℤ◌};
 ghost use Rattle.integers.specs.Bounds.{Bounded};
-ghost use Rattle.thermometer.specs.Rule.{M, q, s1, s2, F, answer, lowestUnits, unitsAtPlace, InRange};
-ghost use Rattle.thermometer.specs.Steps.{heldBetween, onLineThroughZero, onChord, nearbyUnits, reachedAt, past_at, Encloses};
+ghost use Rattle.thermometer.specs.Rule.{M, q, s1, s2, F, answer, lowest_units, units_at_place, InRange};
+ghost use Rattle.thermometer.specs.Steps.{held_between, on_line_through_zero, on_chord, nearby_units, reached_at, past_at, Encloses};
 ghost use Rattle.thermometer.specs.Ranges.{Admissible};
-ghost use Rattle.thermometer.specs.Reading.{resistanceInside, coefficientsInside, result_of, reading};
+ghost use Rattle.thermometer.specs.Reading.{resistance_inside, coefficients_inside, result_of, reading};
 
 use integers::floor_div;
 
@@ -60,14 +60,14 @@ fn ratio(alpha: u32, delta: u32, beta: u32, t: i64) -> i64
 // F at place k of the range of t.
 fn ratio_at(alpha: u32, delta: u32, beta: u32, k: u64) -> i64
     requires { Admissible alpha delta beta × (k ≤ 491520) }
-    ensures { result ≡ F alpha delta beta (unitsAtPlace k) }
+    ensures { result ≡ F alpha delta beta (units_at_place k) }
 {
     ratio(alpha, delta, beta, k as i64 - 245_760)
 }
 
 // t, or the end of low..high that it is beyond.
 fn held_between(low: i64, high: i64, t: i64) -> i64
-    ensures { result ≡ heldBetween low high t }
+    ensures { result ≡ held_between low high t }
 {
     if t < low {
         return low;
@@ -81,7 +81,7 @@ fn held_between(low: i64, high: i64, t: i64) -> i64
 // Where a line through F(0) that rises by alpha / 240,000 a unit comes to m.
 fn on_line(alpha: u32, m: i64) -> i64
     requires { (3000000 ≤ alpha) × Bounded m (pos 22000000) }
-    ensures { result ≡ onLineThroughZero alpha m }
+    ensures { result ≡ on_line_through_zero alpha m }
 {
     let t = floor_div((m - 16_777_216) * 240_000, alpha as i64);
     held_between(-245_760, 243_712, t)
@@ -90,7 +90,7 @@ fn on_line(alpha: u32, m: i64) -> i64
 // Where the chord of F from t to t + 2,048 comes to m.
 fn on_chord(alpha: u32, delta: u32, beta: u32, m: i64, t: i64) -> i64
     requires { Admissible alpha delta beta × Bounded m (pos 22000000) × InRange t × InRange (t +ℤ pos 2048) }
-    ensures { result ≡ onChord alpha delta beta m t }
+    ensures { result ≡ on_chord alpha delta beta m t }
 {
     let from = ratio(alpha, delta, beta, t);
     let to = ratio(alpha, delta, beta, t + 2_048);
@@ -100,8 +100,8 @@ fn on_chord(alpha: u32, delta: u32, beta: u32, m: i64, t: i64) -> i64
 
 // A place before the last and near that of the answer, by one step of the secant method: F is nearly a line. No F is above 22,000,000.
 fn nearby(alpha: u32, delta: u32, beta: u32, m: i64) -> u64
-    requires { Admissible alpha delta beta × (F alpha delta beta lowestUnits ≤ℤ m) }
-    ensures { unitsAtPlace result ≡ nearbyUnits alpha delta beta m }
+    requires { Admissible alpha delta beta × (F alpha delta beta lowest_units ≤ℤ m) }
+    ensures { units_at_place result ≡ nearby_units alpha delta beta m }
 {
     if 22_000_000 < m {
         return 491_519;
@@ -114,7 +114,7 @@ fn nearby(alpha: u32, delta: u32, beta: u32, m: i64) -> u64
 // A place at which F is at most m: `near`, and else the first.
 fn reached_at(alpha: u32, delta: u32, beta: u32, m: i64, near: u64) -> u64
     requires { Admissible alpha delta beta × (near ≤ 491520) }
-    ensures { result ≡ reachedAt alpha delta beta m near }
+    ensures { result ≡ reached_at alpha delta beta m near }
 {
     if ratio_at(alpha, delta, beta, near) <= m {
         return near;
@@ -156,7 +156,7 @@ fn greatest_between(alpha: u32, delta: u32, beta: u32, m: i64, first: u64, end: 
 
 // The greatest t with F(t) at most m. The place after the guess is the lower end of the halving or the upper one, as F says.
 fn greatest_units(alpha: u32, delta: u32, beta: u32, m: i64) -> i64
-    requires { Admissible alpha delta beta × (F alpha delta beta lowestUnits ≤ℤ m) }
+    requires { Admissible alpha delta beta × (F alpha delta beta lowest_units ≤ℤ m) }
     ensures { result ≡ answer alpha delta beta m }
 {
     let near = nearby(alpha, delta, beta, m);
@@ -180,7 +180,7 @@ fn measured_ratio(rpam: u32, r0: u32, pam: u16, offset: u16, count: u16) -> i64
 
 // Whether R_PAM or an R0 is in its range.
 pub fn resistance_inside(r: u32) -> bool
-    ensures { result ≡ resistanceInside r }
+    ensures { result ≡ resistance_inside r }
 {
     if r < 1_000 {
         return false;
@@ -190,7 +190,7 @@ pub fn resistance_inside(r: u32) -> bool
 
 // Whether the coefficients of one thermometer are in their ranges.
 pub fn coefficients_inside(r0: u32, alpha: u32, delta: u32, beta: u32) -> bool
-    ensures { result ≡ coefficientsInside r0 alpha delta beta }
+    ensures { result ≡ coefficients_inside r0 alpha delta beta }
 {
     if !resistance_inside(r0) {
         return false;

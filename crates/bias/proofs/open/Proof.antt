@@ -1,4 +1,4 @@
--- `open` meets its contract: each return is what the tests that led there make of `biasOpening`, and the copy of as many bytes is the bytes.
+-- `open` meets its contract: each return is what the tests that led there make of `bias_opening`, and the copy of as many bytes is the bytes.
 use Prim.Native.Nat.{ℕ, ◌<◌}
 use native.Mathlib.Omega.{arith}
 use mathlib.Core.Path.{◌≡◌, refl, ap, ◌∙◌}
@@ -8,78 +8,78 @@ use mir.Syntax.{w8}
 use mir.Val.{Fits}
 use borrow.Author.Rules.{rules}
 use Rattle.lists.specs.Tests.{Verdict}
-use Rattle.lists.proofs.Put.{copied-whole}
-use Rattle.fields.specs.Fields.{layoutIsRight, layoutSize}
-use Rattle.table.specs.Opening.{verdictOf, openedBy}
-use Rattle.table.proofs.Answers.{test-passed, test-failed}
-use Rattle.table.proofs.OpeningLaws.{opening-length-wrong, opening-field-wrong, opening-value-outside, opening-passes, opened-by}
-use Rattle.bias.specs.Bias.{biasLayout, biasSize}
-use Rattle.bias.specs.Opening.{biasInside, biasOpening}
-use Rattle.bias.proofs.OpeningLaws.{lent-layout, opened-bytes}
+use Rattle.lists.proofs.Put.{copied_whole}
+use Rattle.fields.specs.Fields.{layout_is_right, layout_size}
+use Rattle.table.specs.Opening.{verdict_of, opened_by}
+use Rattle.table.proofs.Answers.{test_passed, test_failed}
+use Rattle.table.proofs.OpeningLaws.{opening_length_wrong, opening_field_wrong, opening_value_outside, opening_passes, opened_by_lem}
+use Rattle.bias.specs.Bias.{bias_layout, bias_size}
+use Rattle.bias.specs.Opening.{bias_inside, bias_opening}
+use Rattle.bias.proofs.OpeningLaws.{lent_layout, opened_bytes}
 use Rattle.bias.proofs.open.Statement.{statement}
 use Rattle.bias.proofs.open.Tie as tie
 
 -- what `open` gives for bytes, where the verdict on them is known
-opened : (bytes : List ℕ) → ((k : ℕ) → Fits w8 (get_or bytes k 0)) → {verdict answered : Verdict} {bias : List ℕ} → biasOpening bytes ≡ verdict
-    → answered ≡ verdict → bias ≡ openedBy biasSize verdict bytes
-    → (answered ≡ biasOpening bytes) × (bias ≡ openedBy biasSize (biasOpening bytes) bytes) × ((k : ℕ) → get_or bias k 0 < 256)
+opened : (bytes : List ℕ) → ((k : ℕ) → Fits w8 (get_or bytes k 0)) → {verdict answered : Verdict} {bias : List ℕ} → bias_opening bytes ≡ verdict
+    → answered ≡ verdict → bias ≡ opened_by bias_size verdict bytes
+    → (answered ≡ bias_opening bytes) × (bias ≡ opened_by bias_size (bias_opening bytes) bytes) × ((k : ℕ) → get_or bias k 0 < 256)
 opened bytes small {verdict} known answers given =
-    let both = opened-by biasSize bytes known answers given in
-    (both.0, both.1, λ k. rw given (opened-bytes biasSize verdict bytes (λ j. (small j).fits) k))
+    let both = opened_by_lem bias_size bytes known answers given in
+    (both.0, both.1, λ k. rw given (opened_bytes bias_size verdict bytes (λ j. (small j).fits) k))
 
-layout-answers : (c : tie.After-layout-is-right)
-    → c.layout-is-right.result ≡ layoutIsRight c.before.before.before.before.before.args.bytes.now 0 biasLayout
-layout-answers c = c.layout-is-right.ensures ∙ ap (layoutIsRight c.before.before.before.before.before.args.bytes.now 0) lent-layout
+layout_answers : (c : tie.After-layout-is-right)
+    → c.layout-is-right.result ≡ layout_is_right c.before.before.before.before.before.args.bytes.now 0 bias_layout
+layout_answers c = c.layout-is-right.ensures ∙ ap (layout_is_right c.before.before.before.before.before.args.bytes.now 0) lent_layout
 
-refused-requires : tie.Need-refused-requires
-refused-requires c κs = search rules
+refused_requires : tie.Need-refused-requires
+refused_requires c κs = search rules
 
 returns : tie.Need-returns
-unfolding biasOpening
+unfolding bias_opening
 returns c =
     let k = c.before.before in
     let bytes = k.before.args.bytes.now in
     opened
     bytes
     k.shared-slice-known.given
-    (opening-length-wrong biasLayout (biasInside bytes) bytes c.before.if1.true)
-    (ap verdictOf c.refused.ensures.0)
+    (opening_length_wrong bias_layout (bias_inside bytes) bytes c.before.if1.true)
+    (ap verdict_of c.refused.ensures.0)
     c.refused.ensures.1
 
-slice-aggregate-layout-is-right : tie.Need-slice-aggregate-layout-is-right
-slice-aggregate-layout-is-right c = refl
+slice_aggregate_layout_is_right : tie.Need-slice-aggregate-layout-is-right
+slice_aggregate_layout_is_right c = refl
 
-slice-aggregate-layout-is-right-2 : tie.Need-slice-aggregate-layout-is-right-2
-slice-aggregate-layout-is-right-2 c = refl
+slice_aggregate_layout_is_right_2 : tie.Need-slice-aggregate-layout-is-right-2
+slice_aggregate_layout_is_right_2 c = refl
 
-layout-is-right-requires : tie.Need-layout-is-right-requires
-layout-is-right-requires c κs = (refl, rw (ap layoutSize lent-layout) (omega arith))
+layout_is_right_requires : tie.Need-layout-is-right-requires
+layout_is_right_requires c κs = (refl, rw (ap layout_size lent_layout) (omega arith))
 
-refused-requires-2 : tie.Need-refused-requires-2
-refused-requires-2 c κs = search rules
+refused_requires_2 : tie.Need-refused-requires-2
+refused_requires_2 c κs = search rules
 
-returns-2 : tie.Need-returns-2
-unfolding biasOpening
-returns-2 c =
+returns_2 : tie.Need-returns-2
+unfolding bias_opening
+returns_2 c =
     let l = c.before.before in
     let first = l.before.before.before in
     let bytes = first.before.before.args.bytes.now in
     opened
     bytes
     first.before.shared-slice-known.given
-    (opening-field-wrong biasLayout (biasInside bytes) bytes first.if1.false (test-failed (layout-answers l) c.before.if2.true))
-    (ap verdictOf c.refused2.ensures.0)
+    (opening_field_wrong bias_layout (bias_inside bytes) bytes first.if1.false (test_failed (layout_answers l) c.before.if2.true))
+    (ap verdict_of c.refused2.ensures.0)
     c.refused2.ensures.1
 
-values-inside-requires : tie.Need-values-inside-requires
-values-inside-requires c κs = search rules
+values_inside_requires : tie.Need-values-inside-requires
+values_inside_requires c κs = search rules
 
-refused-requires-3 : tie.Need-refused-requires-3
-refused-requires-3 c κs = search rules
+refused_requires_3 : tie.Need-refused-requires-3
+refused_requires_3 c κs = search rules
 
-returns-3 : tie.Need-returns-3
-unfolding biasOpening
-returns-3 c =
+returns_3 : tie.Need-returns-3
+unfolding bias_opening
+returns_3 c =
     let v = c.before.before in
     let second = v.before in
     let l = second.before in
@@ -88,25 +88,25 @@ returns-3 c =
     opened
     bytes
     first.before.shared-slice-known.given
-    (opening-value-outside
-    biasLayout
-    (biasInside bytes)
+    (opening_value_outside
+    bias_layout
+    (bias_inside bytes)
     bytes
     first.if1.false
-    (test-passed (layout-answers l) second.if2.false)
-    (test-failed v.values-inside.ensures c.before.if3.true))
-    (ap verdictOf c.refused3.ensures.0)
+    (test_passed (layout_answers l) second.if2.false)
+    (test_failed v.values-inside.ensures c.before.if3.true))
+    (ap verdict_of c.refused3.ensures.0)
     c.refused3.ensures.1
 
-slice-aggregate-copy : tie.Need-slice-aggregate-copy
-slice-aggregate-copy c = refl
+slice_aggregate_copy : tie.Need-slice-aggregate-copy
+slice_aggregate_copy c = refl
 
-copy-requires : tie.Need-copy-requires
-copy-requires c κs = search rules
+copy_requires : tie.Need-copy-requires
+copy_requires c κs = search rules
 
-returns-4 : tie.Need-returns-4
-unfolding biasOpening
-returns-4 c =
+returns_4 : tie.Need-returns-4
+unfolding bias_opening
+returns_4 c =
     let third = c.before.before.before in
     let v = third.before in
     let second = v.before in
@@ -117,30 +117,30 @@ returns-4 c =
     opened
     bytes
     first.before.shared-slice-known.given
-    (opening-passes
-    biasLayout
-    (biasInside bytes)
+    (opening_passes
+    bias_layout
+    (bias_inside bytes)
     bytes
     long
-    (test-passed (layout-answers l) second.if2.false)
-    (test-passed v.values-inside.ensures third.if3.false))
+    (test_passed (layout_answers l) second.if2.false)
+    (test_passed v.values-inside.ensures third.if3.false))
     refl
-    (copied-whole bytes _ _ long c.before.copy2.ensures.1)
+    (copied_whole bytes _ _ long c.before.copy2.ensures.1)
 
 pub open_spec : {M : Type 1} → statement M
 open_spec =
     tie.close
     (tie.spec
-    refused-requires
+    refused_requires
     returns
-    slice-aggregate-layout-is-right
-    slice-aggregate-layout-is-right-2
-    layout-is-right-requires
-    refused-requires-2
-    returns-2
-    values-inside-requires
-    refused-requires-3
-    returns-3
-    slice-aggregate-copy
-    copy-requires
-    returns-4)
+    slice_aggregate_layout_is_right
+    slice_aggregate_layout_is_right_2
+    layout_is_right_requires
+    refused_requires_2
+    returns_2
+    values_inside_requires
+    refused_requires_3
+    returns_3
+    slice_aggregate_copy
+    copy_requires
+    returns_4)

@@ -7,80 +7,80 @@ use mathlib.Core.List.{List}
 use mathlib.Core.Bool.{Bool, true}
 use borrow.Author.Rules.{rules}
 use Rattle.lists.specs.Count.{every}
-use Rattle.lists.proofs.Every.{every-none, every_more, every-ended}
-use Rattle.lists.proofs.Loops.{next-at-most, less-left, ended}
-use Rattle.integers.proofs.Machine.{result-reads-back}
+use Rattle.lists.proofs.Every.{every_none, every_more, every_ended}
+use Rattle.lists.proofs.Loops.{next_at_most, less_left, ended}
+use Rattle.integers.proofs.Machine.{result_reads_back}
 use Rattle.instrument.specs.Instrument.{positions}
-use Rattle.table.specs.Ranges.{sizeTo}
-use Rattle.table.proofs.Answers.{test-passed, test-failed}
-use Rattle.bias.specs.Bias.{c0In}
-use Rattle.bias.specs.Opening.{partInside}
+use Rattle.table.specs.Ranges.{size_to}
+use Rattle.table.proofs.Answers.{test_passed, test_failed}
+use Rattle.bias.specs.Bias.{c0_in}
+use Rattle.bias.specs.Opening.{part_inside}
 use Rattle.bias.proofs.part_inside.Statement.{statement}
 use Rattle.bias.proofs.part_inside.Tie as tie
 
 abbrev inside : List ℕ → ℕ → Bool
-inside part i = sizeTo 4096 (c0In part i)
+inside part i = size_to 4096 (c0_in part i)
 
-abbrev invariant-loop : tie.invariant-loop
-invariant-loop part i₀ i = (i ≤ positions) × (every (inside part) i ≡ true)
+abbrev invariant_loop : tie.invariant_loop
+invariant_loop part i₀ i = (i ≤ positions) × (every (inside part) i ≡ true)
 
-abbrev decreases-loop : tie.decreases-loop
-decreases-loop part i₀ i = positions - i
+abbrev decreases_loop : tie.decreases_loop
+decreases_loop part i₀ i = positions - i
 
 -- the answer is the test of position i's c0, which fits 64 bits
-answer-is-test : (c : tie.After-size-to invariant-loop decreases-loop)
+answer_is_test : (c : tie.After-size-to invariant_loop decreases_loop)
     → (let l = c.before.before.before in c.size-to.result ≡ inside l.before.before.args.part.now l.loop.i)
-answer-is-test c =
+answer_is_test c =
     let r = c.before.c0-in in
-    c.size-to.ensures ∙ ap (sizeTo 4096) (result-reads-back r.result r.type-inv ∙ r.ensures)
+    c.size-to.ensures ∙ ap (size_to 4096) (result_reads_back r.result r.type-inv ∙ r.ensures)
 
-loop-holds : tie.Need-loop-init invariant-loop decreases-loop
-loop-holds c = (omega arith, every-none _)
+loop_holds : tie.Need-loop-init invariant_loop decreases_loop
+loop_holds c = (omega arith, every_none _)
 
-c0-in-requires : tie.Need-c0-in-requires invariant-loop decreases-loop
-c0-in-requires c κs = search rules
+c0_in_requires : tie.Need-c0-in-requires invariant_loop decreases_loop
+c0_in_requires c κs = search rules
 
-size-to-requires : tie.Need-size-to-requires invariant-loop decreases-loop
-size-to-requires c κs = search rules
+size_to_requires : tie.Need-size-to-requires invariant_loop decreases_loop
+size_to_requires c κs = search rules
 
-returns : tie.Need-returns invariant-loop decreases-loop
-unfolding partInside
+returns : tie.Need-returns invariant_loop decreases_loop
+unfolding part_inside
 returns c =
     let t = c.before.before.before in
     let part = t.before.before.before.args.part.now in
-    sym (every-ended (inside part) t.before.loop.i positions (test-failed (answer-is-test c.before) c.if1.true) t.loop-test.true)
+    sym (every_ended (inside part) t.before.loop.i positions (test_failed (answer_is_test c.before) c.if1.true) t.loop-test.true)
 
-add-i : tie.Need-overflow-add-i invariant-loop decreases-loop
-add-i c = omega arith
+add_i : tie.Need-overflow-add-i invariant_loop decreases_loop
+add_i c = omega arith
 
-loop-less : tie.Need-loop-smaller invariant-loop decreases-loop
-loop-less c = less-left c.before.before.before.loop-test.true
+loop_less : tie.Need-loop-smaller invariant_loop decreases_loop
+loop_less c = less_left c.before.before.before.loop-test.true
 
-loop-again : tie.Need-loop-preserved invariant-loop decreases-loop
-loop-again c =
+loop_again : tie.Need-loop-preserved invariant_loop decreases_loop
+loop_again c =
     let t = c.before.before.before in
     let l = t.before in
     let part = l.before.before.args.part.now in
-    (next-at-most t.loop-test.true, every_more (inside part) l.loop.i l.loop.invariant.1 ∙ test-passed (answer-is-test c.before) c.if1.false)
+    (next_at_most t.loop-test.true, every_more (inside part) l.loop.i l.loop.invariant.1 ∙ test_passed (answer_is_test c.before) c.if1.false)
 
-returns-2 : tie.Need-returns-2 invariant-loop decreases-loop
-unfolding partInside
-returns-2 c =
+returns_2 : tie.Need-returns-2 invariant_loop decreases_loop
+unfolding part_inside
+returns_2 c =
     let l = c.before.loop in
     let part = c.before.before.before.args.part.now in
     sym l.invariant.1 ∙ ap (every (inside part)) (ended l.invariant.0 (omega arith))
 
-pub part-inside-spec : {M : Type 1} → statement M
-part-inside-spec =
+pub part_inside_spec : {M : Type 1} → statement M
+part_inside_spec =
     tie.close
     (tie.spec
-    invariant-loop
-    decreases-loop
-    loop-holds
-    c0-in-requires
-    size-to-requires
+    invariant_loop
+    decreases_loop
+    loop_holds
+    c0_in_requires
+    size_to_requires
     returns
-    add-i
-    loop-less
-    loop-again
-    returns-2)
+    add_i
+    loop_less
+    loop_again
+    returns_2)

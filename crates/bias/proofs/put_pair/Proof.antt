@@ -8,32 +8,32 @@ use borrow.Author.Rules.{rules}
 use Rattle.bias.proofs.put_pair.Statement.{statement}
 use Rattle.bias.proofs.put_pair.Tie as tie
 
-u16-at-requires : tie.Need-u16-at-requires
-u16-at-requires c κs = search rules
+u16_at_requires : tie.Need-u16-at-requires
+u16_at_requires c κs = search rules
 
-raised-of-requires : tie.Need-raised-of-requires
-raised-of-requires c κs = search rules
+raised_of_requires : tie.Need-raised-of-requires
+raised_of_requires c κs = search rules
 
-add-u16-at : tie.Need-overflow-add-u16-at
-add-u16-at c = search rules
+add_u16_at : tie.Need-overflow-add-u16-at
+add_u16_at c = search rules
 
-u16-at-requires-2 : tie.Need-u16-at-requires-2
-u16-at-requires-2 c κs = search rules
+u16_at_requires_2 : tie.Need-u16-at-requires-2
+u16_at_requires_2 c κs = search rules
 
-raised-of-requires-2 : tie.Need-raised-of-requires-2
-raised-of-requires-2 c κs = search rules
+raised_of_requires_2 : tie.Need-raised-of-requires-2
+raised_of_requires_2 c κs = search rules
 
-add-put-two : tie.Need-overflow-add-put-two
-add-put-two c = search rules
+add_put_two : tie.Need-overflow-add-put-two
+add_put_two c = search rules
 
-mul-put-two : tie.Need-overflow-mul-put-two
-mul-put-two c = search rules
+mul_put_two : tie.Need-overflow-mul-put-two
+mul_put_two c = search rules
 
-add-put-two-2 : tie.Need-overflow-add-put-two-2
-add-put-two-2 c = search rules
+add_put_two_2 : tie.Need-overflow-add-put-two-2
+add_put_two_2 c = search rules
 
-put-two-requires : tie.Need-put-two-requires
-put-two-requires c κs = search rules
+put_two_requires : tie.Need-put-two-requires
+put_two_requires c κs = search rules
 
 same_length : tie.Need-same-length
 same_length c = search rules
@@ -48,18 +48,18 @@ returns c =
     let e = second.raised-of2.ensures ∙ ap raised second.before.u16-at2.ensures in
     two.put_two.ensures ∙ ap₂ (λ (x y : ℕ). put a.out.now a.at ((x + 32768) ∷ (65536 * y + 32767) ∷ [])) e c0
 
-pub put-pair-spec : {M : Type 1} → statement M
-put-pair-spec =
+pub put_pair_spec : {M : Type 1} → statement M
+put_pair_spec =
     tie.close
     (tie.spec
-    u16-at-requires
-    raised-of-requires
-    add-u16-at
-    u16-at-requires-2
-    raised-of-requires-2
-    add-put-two
-    mul-put-two
-    add-put-two-2
-    put-two-requires
+    u16_at_requires
+    raised_of_requires
+    add_u16_at
+    u16_at_requires_2
+    raised_of_requires_2
+    add_put_two
+    mul_put_two
+    add_put_two_2
+    put_two_requires
     same_length
     returns)

@@ -2,33 +2,33 @@
 use native.Mathlib.Omega.{arith}
 use mathlib.Core.List.{[], ◌∷◌}
 use lib.ListN.{length-set}
-use Rattle.lists.proofs.Put.{stores-are-put}
+use Rattle.lists.proofs.Put.{stores_are_put}
 use borrow.Author.Rules.{rules}
 use Rattle.bias.proofs.put_two.Statement.{statement}
 use Rattle.bias.proofs.put_two.Tie as tie
 
-mul-out : tie.Need-overflow-mul-out
-mul-out c = search rules
+mul_out : tie.Need-overflow-mul-out
+mul_out c = search rules
 
-slice-write-out : tie.Need-slice-write-out
-slice-write-out c = search rules
+slice_write_out : tie.Need-slice-write-out
+slice_write_out c = search rules
 
-add-out : tie.Need-overflow-add-out
-add-out c = search rules
+add_out : tie.Need-overflow-add-out
+add_out c = search rules
 
-mul-out-2 : tie.Need-overflow-mul-out-2
-mul-out-2 c = search rules
+mul_out_2 : tie.Need-overflow-mul-out-2
+mul_out_2 c = search rules
 
-slice-write-out-2 : tie.Need-slice-write-out-2
-slice-write-out-2 c = simp length-set (omega arith)
+slice_write_out_2 : tie.Need-slice-write-out-2
+slice_write_out_2 c = simp length-set (omega arith)
 
 same_length : tie.Need-same-length
 same_length c = search rules
 
 returns : tie.Need-returns
-returns c = stores-are-put c.args.out.now c.args.at c.args.first (c.args.second ∷ []) (omega arith)
+returns c = stores_are_put c.args.out.now c.args.at c.args.first (c.args.second ∷ []) (omega arith)
 
-pub put-two-spec : {M : Type 1} → statement M
-put-two-spec =
+pub put_two_spec : {M : Type 1} → statement M
+put_two_spec =
     tie.close
-    (tie.spec mul-out slice-write-out add-out mul-out-2 slice-write-out-2 same_length returns)
+    (tie.spec mul_out slice_write_out add_out mul_out_2 slice_write_out_2 same_length returns)

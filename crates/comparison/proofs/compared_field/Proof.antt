@@ -5,11 +5,11 @@ use borrow.Author.Rules.{rules}
 use Rattle.comparison.proofs.compared_field.Statement.{statement}
 use Rattle.comparison.proofs.compared_field.Tie as tie
 
-field-requires : tie.Need-field-requires
-field-requires c κs = search rules
+field_requires : tie.Need-field-requires
+field_requires c κs = search rules
 
 returns : tie.Need-returns
 returns c = ap length c.field.ensures
 
-pub compared-field-spec : {M : Type 1} → statement M
-compared-field-spec = tie.close (tie.spec field-requires returns)
+pub compared_field_spec : {M : Type 1} → statement M
+compared_field_spec = tie.close (tie.spec field_requires returns)

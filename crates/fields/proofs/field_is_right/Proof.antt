@@ -1,27 +1,27 @@
--- `field_is_right` meets its contract: the two tests are those of `fieldIsRight`, in its order.
+-- `field_is_right` meets its contract: the two tests are those of `field_is_right`, in its order.
 use borrow.Author.Rules.{rules}
 use borrow.Author.Tests.{eq-eqb, ne_eqb}
-use Rattle.fields.specs.Fields.{fieldIsRight}
+use Rattle.fields.specs.Fields.{field_is_right}
 use Rattle.fields.proofs.field_is_right.Statement.{statement}
 use Rattle.fields.proofs.field_is_right.Tie as tie
 
-shared-slice-read-if1 : tie.Need-shared-slice-read-if1
-shared-slice-read-if1 c = search rules
+shared_slice_read_if1 : tie.Need-shared-slice-read-if1
+shared_slice_read_if1 c = search rules
 
 returns : tie.Need-returns
-unfolding fieldIsRight
+unfolding field_is_right
 returns c = simp (ne_eqb _ _ c.if1.true)
 
-add-u16-at : tie.Need-overflow-add-u16-at
-add-u16-at c = search rules
+add_u16_at : tie.Need-overflow-add-u16-at
+add_u16_at c = search rules
 
-u16-at-requires : tie.Need-u16-at-requires
-u16-at-requires c κs = search rules
+u16_at_requires : tie.Need-u16-at-requires
+u16_at_requires c κs = search rules
 
-returns-2 : tie.Need-returns-2
-unfolding fieldIsRight
-returns-2 c = simp (eq-eqb _ _ c.before.if1.false, ← c.u16-at.ensures)
+returns_2 : tie.Need-returns-2
+unfolding field_is_right
+returns_2 c = simp (eq-eqb _ _ c.before.if1.false, ← c.u16-at.ensures)
 
-pub field-is-right-spec : {M : Type 1} → statement M
-field-is-right-spec =
-    tie.close (tie.spec shared-slice-read-if1 returns add-u16-at u16-at-requires returns-2)
+pub field_is_right_spec : {M : Type 1} → statement M
+field_is_right_spec =
+    tie.close (tie.spec shared_slice_read_if1 returns add_u16_at u16_at_requires returns_2)

@@ -7,14 +7,14 @@ use Rattle.fields.specs.Numbers.{signed}
 use Rattle.fields.proofs.i16_at.Statement.{statement}
 use Rattle.fields.proofs.i16_at.Tie as tie
 
-u16-at-requires : tie.Need-u16-at-requires
-u16-at-requires c κs = search rules
+u16_at_requires : tie.Need-u16-at-requires
+u16_at_requires c κs = search rules
 
-cast-signed-of : tie.Need-overflow-cast-signed-of
-cast-signed-of c = search rules
+cast_signed_of : tie.Need-overflow-cast-signed-of
+cast_signed_of c = search rules
 
-signed-of-requires : tie.Need-signed-of-requires
-signed-of-requires c κs = search rules
+signed_of_requires : tie.Need-signed-of-requires
+signed_of_requires c κs = search rules
 
 returns : tie.Need-returns
 returns c =
@@ -22,5 +22,5 @@ returns c =
     ∙ c.Signed-of.ensures
     ∙ ap (signed 0x8000) c.before.u16-at.ensures
 
-pub i16-at-spec : {M : Type 1} → statement M
-i16-at-spec = tie.close (tie.spec u16-at-requires cast-signed-of signed-of-requires returns)
+pub i16_at_spec : {M : Type 1} → statement M
+i16_at_spec = tie.close (tie.spec u16_at_requires cast_signed_of signed_of_requires returns)

@@ -7,11 +7,11 @@ use Rattle.fields.specs.Numbers.{signed}
 use Rattle.fields.proofs.i32_at.Statement.{statement}
 use Rattle.fields.proofs.i32_at.Tie as tie
 
-u32-at-requires : tie.Need-u32-at-requires
-u32-at-requires c κs = search rules
+u32_at_requires : tie.Need-u32-at-requires
+u32_at_requires c κs = search rules
 
-signed-of-requires : tie.Need-signed-of-requires
-signed-of-requires c κs = search rules
+signed_of_requires : tie.Need-signed-of-requires
+signed_of_requires c κs = search rules
 
 returns : tie.Need-returns
 returns c =
@@ -19,5 +19,5 @@ returns c =
     ∙ c.Signed-of.ensures
     ∙ ap (signed 0x8000_0000) c.before.u32-at.ensures
 
-pub i32-at-spec : {M : Type 1} → statement M
-i32-at-spec = tie.close (tie.spec u32-at-requires signed-of-requires returns)
+pub i32_at_spec : {M : Type 1} → statement M
+i32_at_spec = tie.close (tie.spec u32_at_requires signed_of_requires returns)

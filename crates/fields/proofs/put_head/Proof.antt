@@ -5,20 +5,20 @@ use mathlib.Core.Path.{ap, ◌∙◌}
 use mathlib.Core.List.{List, [], ◌∷◌}
 use lib.ListN.{length-set}
 use Rattle.lists.specs.Build.{put}
-use Rattle.lists.proofs.Put.{stores-are-put, put-after-put}
-use Rattle.fields.specs.Numbers.{u16Bytes}
+use Rattle.lists.proofs.Put.{stores_are_put, put_after_put}
+use Rattle.fields.specs.Numbers.{u16_bytes}
 use borrow.Author.Rules.{rules}
 use Rattle.fields.proofs.put_head.Statement.{statement}
 use Rattle.fields.proofs.put_head.Tie as tie
 
-slice-write-out : tie.Need-slice-write-out
-slice-write-out c = search rules
+slice_write_out : tie.Need-slice-write-out
+slice_write_out c = search rules
 
-add-put-u16 : tie.Need-overflow-add-put-u16
-add-put-u16 c = search rules
+add_put_u16 : tie.Need-overflow-add-put-u16
+add_put_u16 c = search rules
 
-put-u16-requires : tie.Need-put-u16-requires
-put-u16-requires c κs = simp length-set (omega arith)
+put_u16_requires : tie.Need-put-u16-requires
+put_u16_requires c κs = simp length-set (omega arith)
 
 same_length : tie.Need-same-length
 same_length c = c.before.before.put-u16.auto.0 ∙ simp length-set
@@ -29,9 +29,9 @@ returns c =
     let a = w.before.before.before.args in
     let b = a.out.now in
     w.put-u16.ensures
-    ∙ ap (λ (l : List ℕ). put l (a.at + 1) (u16Bytes a.size)) (stores-are-put b a.at a.tag [] (omega arith))
-    ∙ put-after-put b (a.tag ∷ []) (u16Bytes a.size) a.at (a.at + 1) (omega arith) (omega arith)
+    ∙ ap (λ (l : List ℕ). put l (a.at + 1) (u16_bytes a.size)) (stores_are_put b a.at a.tag [] (omega arith))
+    ∙ put_after_put b (a.tag ∷ []) (u16_bytes a.size) a.at (a.at + 1) (omega arith) (omega arith)
 
-pub put-head-spec : {M : Type 1} → statement M
-put-head-spec =
-    tie.close (tie.spec slice-write-out add-put-u16 put-u16-requires same_length returns)
+pub put_head_spec : {M : Type 1} → statement M
+put_head_spec =
+    tie.close (tie.spec slice_write_out add_put_u16 put_u16_requires same_length returns)

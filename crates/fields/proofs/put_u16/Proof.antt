@@ -3,33 +3,33 @@ use Prim.Native.Nat.{◌/◌, ◌%◌}
 use native.Mathlib.Omega.{arith}
 use mathlib.Core.List.{[], ◌∷◌}
 use lib.ListN.{length-set}
-use Rattle.lists.proofs.Put.{stores-are-put}
+use Rattle.lists.proofs.Put.{stores_are_put}
 use borrow.Author.Rules.{rules}
 use Rattle.fields.proofs.put_u16.Statement.{statement}
 use Rattle.fields.proofs.put_u16.Tie as tie
 
-cast-out : tie.Need-overflow-cast-out
-cast-out c = search rules
+cast_out : tie.Need-overflow-cast-out
+cast_out c = search rules
 
-slice-write-out : tie.Need-slice-write-out
-slice-write-out c = search rules
+slice_write_out : tie.Need-slice-write-out
+slice_write_out c = search rules
 
-cast-out-2 : tie.Need-overflow-cast-out-2
-cast-out-2 c = search rules
+cast_out_2 : tie.Need-overflow-cast-out-2
+cast_out_2 c = search rules
 
-add-out : tie.Need-overflow-add-out
-add-out c = search rules
+add_out : tie.Need-overflow-add-out
+add_out c = search rules
 
-slice-write-out-2 : tie.Need-slice-write-out-2
-slice-write-out-2 c = simp length-set (omega arith)
+slice_write_out_2 : tie.Need-slice-write-out-2
+slice_write_out_2 c = simp length-set (omega arith)
 
 same_length : tie.Need-same-length
 same_length c = search rules
 
 returns : tie.Need-returns
-returns c = stores-are-put c.args.out.now c.args.at (c.args.n / 256) (c.args.n % 256 ∷ []) (omega arith)
+returns c = stores_are_put c.args.out.now c.args.at (c.args.n / 256) (c.args.n % 256 ∷ []) (omega arith)
 
-pub put-u16-spec : {M : Type 1} → statement M
-put-u16-spec =
+pub put_u16_spec : {M : Type 1} → statement M
+put_u16_spec =
     tie.close
-    (tie.spec cast-out slice-write-out cast-out-2 add-out slice-write-out-2 same_length returns)
+    (tie.spec cast_out slice_write_out cast_out_2 add_out slice_write_out_2 same_length returns)

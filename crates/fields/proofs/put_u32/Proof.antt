@@ -3,43 +3,43 @@ use Prim.Native.Nat.{◌/◌, ◌%◌}
 use native.Mathlib.Omega.{arith}
 use mathlib.Core.List.{[], ◌∷◌}
 use lib.ListN.{length-set}
-use Rattle.lists.proofs.Put.{stores-are-put}
+use Rattle.lists.proofs.Put.{stores_are_put}
 use borrow.Author.Rules.{rules}
 use Rattle.fields.proofs.put_u32.Statement.{statement}
 use Rattle.fields.proofs.put_u32.Tie as tie
 
-cast-out : tie.Need-overflow-cast-out
-cast-out c = search rules
+cast_out : tie.Need-overflow-cast-out
+cast_out c = search rules
 
-slice-write-out : tie.Need-slice-write-out
-slice-write-out c = search rules
+slice_write_out : tie.Need-slice-write-out
+slice_write_out c = search rules
 
-cast-out-2 : tie.Need-overflow-cast-out-2
-cast-out-2 c = search rules
+cast_out_2 : tie.Need-overflow-cast-out-2
+cast_out_2 c = search rules
 
-add-out : tie.Need-overflow-add-out
-add-out c = search rules
+add_out : tie.Need-overflow-add-out
+add_out c = search rules
 
-slice-write-out-2 : tie.Need-slice-write-out-2
-slice-write-out-2 c = simp length-set (omega arith)
+slice_write_out_2 : tie.Need-slice-write-out-2
+slice_write_out_2 c = simp length-set (omega arith)
 
-cast-out-3 : tie.Need-overflow-cast-out-3
-cast-out-3 c = search rules
+cast_out_3 : tie.Need-overflow-cast-out-3
+cast_out_3 c = search rules
 
-add-out-2 : tie.Need-overflow-add-out-2
-add-out-2 c = search rules
+add_out_2 : tie.Need-overflow-add-out-2
+add_out_2 c = search rules
 
-slice-write-out-3 : tie.Need-slice-write-out-3
-slice-write-out-3 c = simp length-set (omega arith)
+slice_write_out_3 : tie.Need-slice-write-out-3
+slice_write_out_3 c = simp length-set (omega arith)
 
-cast-out-4 : tie.Need-overflow-cast-out-4
-cast-out-4 c = search rules
+cast_out_4 : tie.Need-overflow-cast-out-4
+cast_out_4 c = search rules
 
-add-out-3 : tie.Need-overflow-add-out-3
-add-out-3 c = search rules
+add_out_3 : tie.Need-overflow-add-out-3
+add_out_3 c = search rules
 
-slice-write-out-4 : tie.Need-slice-write-out-4
-slice-write-out-4 c = simp length-set (omega arith)
+slice_write_out_4 : tie.Need-slice-write-out-4
+slice_write_out_4 c = simp length-set (omega arith)
 
 same_length : tie.Need-same-length
 same_length c = search rules
@@ -47,22 +47,22 @@ same_length c = search rules
 returns : tie.Need-returns
 returns c =
     let n = c.args.n in
-    stores-are-put c.args.out.now c.args.at (n / 16777216) (n / 65536 % 256 ∷ n / 256 % 256 ∷ n % 256 ∷ []) (omega arith)
+    stores_are_put c.args.out.now c.args.at (n / 16777216) (n / 65536 % 256 ∷ n / 256 % 256 ∷ n % 256 ∷ []) (omega arith)
 
-pub put-u32-spec : {M : Type 1} → statement M
-put-u32-spec =
+pub put_u32_spec : {M : Type 1} → statement M
+put_u32_spec =
     tie.close
     (tie.spec
-    cast-out
-    slice-write-out
-    cast-out-2
-    add-out
-    slice-write-out-2
-    cast-out-3
-    add-out-2
-    slice-write-out-3
-    cast-out-4
-    add-out-3
-    slice-write-out-4
+    cast_out
+    slice_write_out
+    cast_out_2
+    add_out
+    slice_write_out_2
+    cast_out_3
+    add_out_2
+    slice_write_out_3
+    cast_out_4
+    add_out_3
+    slice_write_out_4
     same_length
     returns)

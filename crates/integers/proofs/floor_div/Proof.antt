@@ -5,35 +5,35 @@ use mathlib.Core.Bool.{true, false}
 use lib.IntN.{pos, ◌-ℤ◌}
 use lib.Signed.{quot_z}
 use Rattle.integers.specs.Rounding.{floor}
-use Rattle.integers.proofs.Machine.{reads-back, above-zero-bits, quotient_fits, floor-fits, remainder-test}
-use Rattle.integers.proofs.Floor.{floor-below-quotient, floor-is-quotient}
+use Rattle.integers.proofs.Machine.{reads_back, above_zero_bits, quotient_fits, floor_fits, remainder_test}
+use Rattle.integers.proofs.Floor.{floor_below_quotient, floor_is_quotient}
 use Rattle.integers.proofs.floor_div.Statement.{statement}
 use Rattle.integers.proofs.floor_div.Tie as tie
 
-div-quotient : tie.Need-nonzero-div-quotient
-div-quotient c = rw (reads-back c.ranges.a, reads-back c.ranges.b) (above-zero-bits c.requires, quotient_fits c.ranges.a c.requires)
+div_quotient : tie.Need-nonzero-div-quotient
+div_quotient c = rw (reads_back c.ranges.a, reads_back c.ranges.b) (above_zero_bits c.requires, quotient_fits c.ranges.a c.requires)
 
-rem-if1 : tie.Need-nonzero-rem-if1
-rem-if1 c = div-quotient c
+rem_if1 : tie.Need-nonzero-rem-if1
+rem_if1 c = div_quotient c
 
 one_less : (c : tie.Then1) → quot_z c.before.args.a c.before.args.b -ℤ pos 1 ≡ floor c.before.args.a c.before.args.b
-one_less c = let s = c.before in floor-below-quotient s.args.a s.requires (remainder-test s.ranges.a s.ranges.b true c.if1.true)
+one_less c = let s = c.before in floor_below_quotient s.args.a s.requires (remainder_test s.ranges.a s.ranges.b true c.if1.true)
 
-sub-result : tie.Need-overflow-sub-result
-sub-result c =
+sub_result : tie.Need-overflow-sub-result
+sub_result c =
     let s = c.before in
-    rw (reads-back s.ranges.a, reads-back s.ranges.b, reads-back (quotient_fits s.ranges.a s.requires), one_less c) (floor-fits s.args.b s.ranges.a)
+    rw (reads_back s.ranges.a, reads_back s.ranges.b, reads_back (quotient_fits s.ranges.a s.requires), one_less c) (floor_fits s.args.b s.ranges.a)
 
 returns : tie.Need-returns
 returns c =
     let s = c.before in
-    rw (reads-back s.ranges.a, reads-back s.ranges.b, reads-back (quotient_fits s.ranges.a s.requires), one_less c, reads-back (floor-fits s.args.b s.ranges.a))
+    rw (reads_back s.ranges.a, reads_back s.ranges.b, reads_back (quotient_fits s.ranges.a s.requires), one_less c, reads_back (floor_fits s.args.b s.ranges.a))
 
-returns-2 : tie.Need-returns-2
-returns-2 c =
+returns_2 : tie.Need-returns-2
+returns_2 c =
     let s = c.before in
-    rw (reads-back s.ranges.a, reads-back s.ranges.b, reads-back (quotient_fits s.ranges.a s.requires))
-    (floor-is-quotient s.args.a s.requires (remainder-test s.ranges.a s.ranges.b false c.if1.false))
+    rw (reads_back s.ranges.a, reads_back s.ranges.b, reads_back (quotient_fits s.ranges.a s.requires))
+    (floor_is_quotient s.args.a s.requires (remainder_test s.ranges.a s.ranges.b false c.if1.false))
 
-pub floor-div-spec : {M : Type 1} → statement M
-floor-div-spec = tie.close (tie.spec div-quotient rem-if1 sub-result returns returns-2)
+pub floor_div_spec : {M : Type 1} → statement M
+floor_div_spec = tie.close (tie.spec div_quotient rem_if1 sub_result returns returns_2)

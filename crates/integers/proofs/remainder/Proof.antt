@@ -9,39 +9,39 @@ use mir.Syntax.{w64}
 use mir.Val.{SFits}
 use Rattle.integers.specs.Rounding.{floor}
 use Rattle.integers.proofs.Ring.{opp, #, v0, v1}
-use Rattle.integers.proofs.Certificate.{◌:≤◌, ◌:<◌, hyp, ◌⊕◌, le-by}
-use Rattle.integers.proofs.Machine.{reads-back, above-zero-bits, quotient_fits, remainder-fits, remainder-test, range-fits, fits-high}
-use Rattle.integers.proofs.Floor.{rest_of_negative, rest-of-not-negative, rest-low, rest-high}
+use Rattle.integers.proofs.Certificate.{◌:≤◌, ◌:<◌, hyp, ◌⊕◌, le_by}
+use Rattle.integers.proofs.Machine.{reads_back, above_zero_bits, quotient_fits, remainder_fits, remainder_test, range_fits, fits_high}
+use Rattle.integers.proofs.Floor.{rest_of_negative, rest_of_not_negative, rest_low, rest_high}
 use Rattle.integers.proofs.remainder.Statement.{statement}
 use Rattle.integers.proofs.remainder.Tie as tie
 
-rest-fits : (a : ℤ) {b : ℤ} → pos 0 <ℤ b → SFits w64 b → SFits w64 (a -ℤ b *ℤ floor a b)
-rest-fits a {b} p f =
-    range-fits
-    (le-by ((a -ℤ b *ℤ floor a b) ∷ []) ((# 0 :≤ v0) ∷ []) (opp (# 9223372036854775808)) v0 (hyp 0 ⊕ hyp 1) tt (rest-low a p))
-    (le-by ((a -ℤ b *ℤ floor a b) ∷ b ∷ []) ((v0 :< v1) ∷ (v1 :≤ # 9223372036854775807) ∷ []) v0 (# 9223372036854775807) (hyp 0 ⊕ hyp 1 ⊕ hyp 2) tt (rest-high a p) (fits-high f))
+rest_fits : (a : ℤ) {b : ℤ} → pos 0 <ℤ b → SFits w64 b → SFits w64 (a -ℤ b *ℤ floor a b)
+rest_fits a {b} p f =
+    range_fits
+    (le_by ((a -ℤ b *ℤ floor a b) ∷ []) ((# 0 :≤ v0) ∷ []) (opp (# 9223372036854775808)) v0 (hyp 0 ⊕ hyp 1) tt (rest_low a p))
+    (le_by ((a -ℤ b *ℤ floor a b) ∷ b ∷ []) ((v0 :< v1) ∷ (v1 :≤ # 9223372036854775807) ∷ []) v0 (# 9223372036854775807) (hyp 0 ⊕ hyp 1 ⊕ hyp 2) tt (rest_high a p) (fits_high f))
 
-rem-rest : tie.Need-nonzero-rem-rest
-rem-rest c = rw (reads-back c.ranges.a, reads-back c.ranges.b) (above-zero-bits c.requires, quotient_fits c.ranges.a c.requires)
+rem_rest : tie.Need-nonzero-rem-rest
+rem_rest c = rw (reads_back c.ranges.a, reads_back c.ranges.b) (above_zero_bits c.requires, quotient_fits c.ranges.a c.requires)
 
-b-more : (c : tie.Then1) → rem_z c.before.args.a c.before.args.b +ℤ c.before.args.b ≡ c.before.args.a -ℤ c.before.args.b *ℤ floor c.before.args.a c.before.args.b
-b-more c = let s = c.before in rest_of_negative s.args.a s.requires (remainder-test s.ranges.a s.ranges.b true c.if1.true)
+b_more : (c : tie.Then1) → rem_z c.before.args.a c.before.args.b +ℤ c.before.args.b ≡ c.before.args.a -ℤ c.before.args.b *ℤ floor c.before.args.a c.before.args.b
+b_more c = let s = c.before in rest_of_negative s.args.a s.requires (remainder_test s.ranges.a s.ranges.b true c.if1.true)
 
-add-result : tie.Need-overflow-add-result
-add-result c =
+add_result : tie.Need-overflow-add-result
+add_result c =
     let s = c.before in
-    rw (reads-back s.ranges.a, reads-back s.ranges.b, reads-back (remainder-fits s.args.b s.ranges.a), b-more c) (rest-fits s.args.a s.requires s.ranges.b)
+    rw (reads_back s.ranges.a, reads_back s.ranges.b, reads_back (remainder_fits s.args.b s.ranges.a), b_more c) (rest_fits s.args.a s.requires s.ranges.b)
 
 returns : tie.Need-returns
 returns c =
     let s = c.before in
-    rw (reads-back s.ranges.a, reads-back s.ranges.b, reads-back (remainder-fits s.args.b s.ranges.a), b-more c, reads-back (rest-fits s.args.a s.requires s.ranges.b))
+    rw (reads_back s.ranges.a, reads_back s.ranges.b, reads_back (remainder_fits s.args.b s.ranges.a), b_more c, reads_back (rest_fits s.args.a s.requires s.ranges.b))
 
-returns-2 : tie.Need-returns-2
-returns-2 c =
+returns_2 : tie.Need-returns-2
+returns_2 c =
     let s = c.before in
-    rw (reads-back s.ranges.a, reads-back s.ranges.b, reads-back (remainder-fits s.args.b s.ranges.a))
-    (rest-of-not-negative s.args.a s.requires (remainder-test s.ranges.a s.ranges.b false c.if1.false))
+    rw (reads_back s.ranges.a, reads_back s.ranges.b, reads_back (remainder_fits s.args.b s.ranges.a))
+    (rest_of_not_negative s.args.a s.requires (remainder_test s.ranges.a s.ranges.b false c.if1.false))
 
-pub remainder-spec : {M : Type 1} → statement M
-remainder-spec = tie.close (tie.spec rem-rest add-result returns returns-2)
+pub remainder_spec : {M : Type 1} → statement M
+remainder_spec = tie.close (tie.spec rem_rest add_result returns returns_2)

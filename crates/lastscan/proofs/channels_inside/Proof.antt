@@ -6,73 +6,73 @@ use mathlib.Core.Path.{◌≡◌, ap, sym, ◌∙◌}
 use mathlib.Core.Bool.{true}
 use lib.ListN.{length}
 use Rattle.lists.specs.Count.{every}
-use Rattle.lists.proofs.Every.{every-none, every_more, every-ended}
-use Rattle.lists.proofs.Loops.{next-at-most, less-left, ended}
+use Rattle.lists.proofs.Every.{every_none, every_more, every_ended}
+use Rattle.lists.proofs.Loops.{next_at_most, less_left, ended}
 use Rattle.instrument.specs.Instrument.{channels}
-use Rattle.table.proofs.Answers.{test-passed, test-failed}
-use Rattle.lastscan.specs.Numbers.{channelNumbersInside}
-use Rattle.lastscan.proofs.NumberLaws.{insideAt, length-channel-part}
+use Rattle.table.proofs.Answers.{test_passed, test_failed}
+use Rattle.lastscan.specs.Numbers.{channel_numbers_inside}
+use Rattle.lastscan.proofs.NumberLaws.{inside_at, length_channel_part}
 use Rattle.lastscan.proofs.channels_inside.Statement.{statement}
 use Rattle.lastscan.proofs.channels_inside.Tie as tie
 
-abbrev invariant-loop : tie.invariant-loop
-invariant-loop numbers c₀ c = (c ≤ channels) × (every (insideAt numbers) c ≡ true)
+abbrev invariant_loop : tie.invariant_loop
+invariant_loop numbers c₀ c = (c ≤ channels) × (every (inside_at numbers) c ≡ true)
 
-abbrev decreases-loop : tie.decreases-loop
-decreases-loop numbers c₀ c = channels - c
+abbrev decreases_loop : tie.decreases_loop
+decreases_loop numbers c₀ c = channels - c
 
 -- the answer is the test of channel c's part
-answer-is-test : (c : tie.After-channel-inside invariant-loop decreases-loop)
-    → (let l = c.before.before.before in c.channel-inside.result ≡ insideAt l.before.before.args.numbers.now l.loop.c)
-answer-is-test c = c.channel-inside.ensures ∙ ap channelNumbersInside c.before.part_of.ensures
+answer_is_test : (c : tie.After-channel-inside invariant_loop decreases_loop)
+    → (let l = c.before.before.before in c.channel-inside.result ≡ inside_at l.before.before.args.numbers.now l.loop.c)
+answer_is_test c = c.channel-inside.ensures ∙ ap channel_numbers_inside c.before.part_of.ensures
 
-loop-holds : tie.Need-loop-init invariant-loop decreases-loop
-loop-holds c = (omega arith, every-none _)
+loop_holds : tie.Need-loop-init invariant_loop decreases_loop
+loop_holds c = (omega arith, every_none _)
 
-part-of-requires : tie.Need-part-of-requires invariant-loop decreases-loop
-part-of-requires c κs = (c.before.before.before.requires, c.loop-test.true)
+part_of_requires : tie.Need-part-of-requires invariant_loop decreases_loop
+part_of_requires c κs = (c.before.before.before.requires, c.loop-test.true)
 
-channel-inside-requires : tie.Need-channel-inside-requires invariant-loop decreases-loop
-channel-inside-requires c κs =
+channel_inside_requires : tie.Need-channel-inside-requires invariant_loop decreases_loop
+channel_inside_requires c κs =
     let l = c.before.before in
-    ap length c.part_of.ensures ∙ length-channel-part l.before.before.args.numbers.now l.before.before.requires l.loop.c c.before.loop-test.true
+    ap length c.part_of.ensures ∙ length_channel_part l.before.before.args.numbers.now l.before.before.requires l.loop.c c.before.loop-test.true
 
-returns : tie.Need-returns invariant-loop decreases-loop
+returns : tie.Need-returns invariant_loop decreases_loop
 returns c =
     let t = c.before.before.before in
     let numbers = t.before.before.before.args.numbers.now in
-    sym (every-ended (insideAt numbers) t.before.loop.c channels (test-failed (answer-is-test c.before) c.if1.true) t.loop-test.true)
+    sym (every_ended (inside_at numbers) t.before.loop.c channels (test_failed (answer_is_test c.before) c.if1.true) t.loop-test.true)
 
-add-c : tie.Need-overflow-add-c invariant-loop decreases-loop
-add-c c = omega arith
+add_c : tie.Need-overflow-add-c invariant_loop decreases_loop
+add_c c = omega arith
 
-loop-less : tie.Need-loop-smaller invariant-loop decreases-loop
-loop-less c = less-left c.before.before.before.loop-test.true
+loop_less : tie.Need-loop-smaller invariant_loop decreases_loop
+loop_less c = less_left c.before.before.before.loop-test.true
 
-loop-again : tie.Need-loop-preserved invariant-loop decreases-loop
-loop-again c =
+loop_again : tie.Need-loop-preserved invariant_loop decreases_loop
+loop_again c =
     let t = c.before.before.before in
     let l = t.before in
     let numbers = l.before.before.args.numbers.now in
-    (next-at-most t.loop-test.true, every_more (insideAt numbers) l.loop.c l.loop.invariant.1 ∙ test-passed (answer-is-test c.before) c.if1.false)
+    (next_at_most t.loop-test.true, every_more (inside_at numbers) l.loop.c l.loop.invariant.1 ∙ test_passed (answer_is_test c.before) c.if1.false)
 
-returns-2 : tie.Need-returns-2 invariant-loop decreases-loop
-returns-2 c =
+returns_2 : tie.Need-returns-2 invariant_loop decreases_loop
+returns_2 c =
     let l = c.before.loop in
     let numbers = c.before.before.before.args.numbers.now in
-    sym l.invariant.1 ∙ ap (every (insideAt numbers)) (ended l.invariant.0 (omega arith))
+    sym l.invariant.1 ∙ ap (every (inside_at numbers)) (ended l.invariant.0 (omega arith))
 
-pub channels-inside-spec : {M : Type 1} → statement M
-channels-inside-spec =
+pub channels_inside_spec : {M : Type 1} → statement M
+channels_inside_spec =
     tie.close
     (tie.spec
-    invariant-loop
-    decreases-loop
-    loop-holds
-    part-of-requires
-    channel-inside-requires
+    invariant_loop
+    decreases_loop
+    loop_holds
+    part_of_requires
+    channel_inside_requires
     returns
-    add-c
-    loop-less
-    loop-again
-    returns-2)
+    add_c
+    loop_less
+    loop_again
+    returns_2)

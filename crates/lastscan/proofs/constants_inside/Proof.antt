@@ -1,68 +1,68 @@
 -- `constants_inside` meets its contract: each answer in the list is its test of the part's numbers.
 use native.Mathlib.Omega.{arith}
 use mathlib.Core.Path.{◌∙◌}
-use Rattle.integers.proofs.Machine.{result-reads-back}
-use Rattle.lastscan.specs.Numbers.{constantsInside}
+use Rattle.integers.proofs.Machine.{result_reads_back}
+use Rattle.lastscan.specs.Numbers.{constants_inside}
 use borrow.Author.Rules.{rules}
 use Rattle.lastscan.proofs.constants_inside.Statement.{statement}
 use Rattle.lastscan.proofs.constants_inside.Tie as tie
 
-shared-slice-read-wide-of : tie.Need-shared-slice-read-wide-of
-shared-slice-read-wide-of c = search rules
+shared_slice_read_wide_of : tie.Need-shared-slice-read-wide-of
+shared_slice_read_wide_of c = search rules
 
-shared-slice-read-wide-of-2 : tie.Need-shared-slice-read-wide-of-2
-shared-slice-read-wide-of-2 c = search rules
+shared_slice_read_wide_of_2 : tie.Need-shared-slice-read-wide-of-2
+shared_slice_read_wide_of_2 c = search rules
 
-wide-of-requires : tie.Need-wide-of-requires
-wide-of-requires c κs = search rules
+wide_of_requires : tie.Need-wide-of-requires
+wide_of_requires c κs = search rules
 
-shared-slice-read-from-to : tie.Need-shared-slice-read-from-to
-shared-slice-read-from-to c = search rules
+shared_slice_read_from_to : tie.Need-shared-slice-read-from-to
+shared_slice_read_from_to c = search rules
 
-from-to-requires : tie.Need-from-to-requires
-from-to-requires c κs = search rules
+from_to_requires : tie.Need-from-to-requires
+from_to_requires c κs = search rules
 
-shared-slice-read-from-to-2 : tie.Need-shared-slice-read-from-to-2
-shared-slice-read-from-to-2 c = search rules
+shared_slice_read_from_to_2 : tie.Need-shared-slice-read-from-to-2
+shared_slice_read_from_to_2 c = search rules
 
-from-to-requires-2 : tie.Need-from-to-requires-2
-from-to-requires-2 c κs = search rules
+from_to_requires_2 : tie.Need-from-to-requires-2
+from_to_requires_2 c κs = search rules
 
-shared-slice-read-signed-of : tie.Need-shared-slice-read-signed-of
-shared-slice-read-signed-of c = search rules
+shared_slice_read_signed_of : tie.Need-shared-slice-read-signed-of
+shared_slice_read_signed_of c = search rules
 
-signed-of-requires : tie.Need-signed-of-requires
-signed-of-requires c κs = omega (arith, c.shared-slice-known6.given 3)
+signed_of_requires : tie.Need-signed-of-requires
+signed_of_requires c κs = omega (arith, c.shared-slice-known6.given 3)
 
-size-to-requires : tie.Need-size-to-requires
-size-to-requires c κs = search rules
+size_to_requires : tie.Need-size-to-requires
+size_to_requires c κs = search rules
 
-shared-slice-read-d-inside : tie.Need-shared-slice-read-d-inside
-shared-slice-read-d-inside c = search rules
+shared_slice_read_d_inside : tie.Need-shared-slice-read-d-inside
+shared_slice_read_d_inside c = search rules
 
-d-inside-requires : tie.Need-d-inside-requires
-d-inside-requires c κs = search rules
+d_inside_requires : tie.Need-d-inside-requires
+d_inside_requires c κs = search rules
 
-shared-slice-read-t20 : tie.Need-shared-slice-read-t20
-shared-slice-read-t20 c = search rules
+shared_slice_read_t20 : tie.Need-shared-slice-read-t20
+shared_slice_read_t20 c = search rules
 
-shared-slice-read-wide-of-3 : tie.Need-shared-slice-read-wide-of-3
-shared-slice-read-wide-of-3 c = search rules
+shared_slice_read_wide_of_3 : tie.Need-shared-slice-read-wide-of-3
+shared_slice_read_wide_of_3 c = search rules
 
-shared-slice-read-wide-of-4 : tie.Need-shared-slice-read-wide-of-4
-shared-slice-read-wide-of-4 c = search rules
+shared_slice_read_wide_of_4 : tie.Need-shared-slice-read-wide-of-4
+shared_slice_read_wide_of_4 c = search rules
 
-wide-of-requires-2 : tie.Need-wide-of-requires-2
-wide-of-requires-2 c κs = search rules
+wide_of_requires_2 : tie.Need-wide-of-requires-2
+wide_of_requires_2 c κs = search rules
 
-slice-aggregate-all-hold : tie.Need-slice-aggregate-all-hold
-slice-aggregate-all-hold c = search rules
+slice_aggregate_all_hold : tie.Need-slice-aggregate-all-hold
+slice_aggregate_all_hold c = search rules
 
-all-hold-requires : tie.Need-all-hold-requires
-all-hold-requires c κs = search rules
+all_hold_requires : tie.Need-all-hold-requires
+all_hold_requires c κs = search rules
 
 returns : tie.Need-returns
-unfolding constantsInside
+unfolding constants_inside
 returns c =
     let base = c.before.before in
     let d = base.before.before.before.before in
@@ -71,28 +71,28 @@ returns c =
     let tc = rise.before.before in
     let wide = tc.before.before in
     c.all_hold.ensures
-    ∙ rw (base.wide-of2.ensures, d.d-inside.ensures, tnl.size-to.ensures, result-reads-back tnl.before.Signed-of.result tnl.before.Signed-of.type-inv, tnl.before.Signed-of.ensures, rise.from-to2.ensures, tc.from-to.ensures, wide.wide_of.ensures)
+    ∙ rw (base.wide-of2.ensures, d.d-inside.ensures, tnl.size-to.ensures, result_reads_back tnl.before.Signed-of.result tnl.before.Signed-of.type-inv, tnl.before.Signed-of.ensures, rise.from-to2.ensures, tc.from-to.ensures, wide.wide_of.ensures)
 
-pub constants-inside-spec : {M : Type 1} → statement M
-constants-inside-spec =
+pub constants_inside_spec : {M : Type 1} → statement M
+constants_inside_spec =
     tie.close
     (tie.spec
-    shared-slice-read-wide-of
-    shared-slice-read-wide-of-2
-    wide-of-requires
-    shared-slice-read-from-to
-    from-to-requires
-    shared-slice-read-from-to-2
-    from-to-requires-2
-    shared-slice-read-signed-of
-    signed-of-requires
-    size-to-requires
-    shared-slice-read-d-inside
-    d-inside-requires
-    shared-slice-read-t20
-    shared-slice-read-wide-of-3
-    shared-slice-read-wide-of-4
-    wide-of-requires-2
-    slice-aggregate-all-hold
-    all-hold-requires
+    shared_slice_read_wide_of
+    shared_slice_read_wide_of_2
+    wide_of_requires
+    shared_slice_read_from_to
+    from_to_requires
+    shared_slice_read_from_to_2
+    from_to_requires_2
+    shared_slice_read_signed_of
+    signed_of_requires
+    size_to_requires
+    shared_slice_read_d_inside
+    d_inside_requires
+    shared_slice_read_t20
+    shared_slice_read_wide_of_3
+    shared_slice_read_wide_of_4
+    wide_of_requires_2
+    slice_aggregate_all_hold
+    all_hold_requires
     returns)

@@ -1,4 +1,4 @@
--- `d_inside` meets its contract: each return is what its test makes of `fromTo`.
+-- `d_inside` meets its contract: each return is what its test makes of `from_to`.
 use borrow.Author.Rules.{rules}
 use borrow.Author.Tests.{le-leb, lt-leb}
 use Rattle.lastscan.proofs.d_inside.Statement.{statement}
@@ -7,11 +7,11 @@ use Rattle.lastscan.proofs.d_inside.Tie as tie
 returns : tie.Need-returns
 returns c = rw (lt-leb 1 c.before.args.d c.if1.true)
 
-mul-result : tie.Need-overflow-mul-result
-mul-result c = search rules
+mul_result : tie.Need-overflow-mul-result
+mul_result c = search rules
 
-returns-2 : tie.Need-returns-2
-returns-2 c = rw (le-leb 1 c.before.args.d c.if1.false)
+returns_2 : tie.Need-returns-2
+returns_2 c = rw (le-leb 1 c.before.args.d c.if1.false)
 
-pub d-inside-spec : {M : Type 1} → statement M
-d-inside-spec = tie.close (tie.spec returns mul-result returns-2)
+pub d_inside_spec : {M : Type 1} → statement M
+d_inside_spec = tie.close (tie.spec returns mul_result returns_2)

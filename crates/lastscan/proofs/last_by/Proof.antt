@@ -6,82 +6,82 @@ use mathlib.Core.List.{◌++◌}
 use lib.ListN.{length, drop, length-set}
 use borrow.Author.Rules.{rules}
 use Rattle.lists.specs.Build.{tabulate}
-use Rattle.lists.proofs.Tabulate.{tabulated-none, tabulated-to-end, filled-by-store}
+use Rattle.lists.proofs.Tabulate.{tabulated_none, tabulated_to_end, filled_by_store}
 use Rattle.instrument.specs.Instrument.{channels}
-use Rattle.lastscan.specs.Numbers.{channelBy, last_by}
-use Rattle.lastscan.proofs.NumberLaws.{channelAt, length-channel-part}
+use Rattle.lastscan.specs.Numbers.{channel_by, last_by}
+use Rattle.lastscan.proofs.NumberLaws.{channel_at, length_channel_part}
 use Rattle.lastscan.proofs.last_by.Statement.{statement}
 use Rattle.lastscan.proofs.last_by.Tie as tie
 
-abbrev invariant-loop : tie.invariant-loop
-invariant-loop numbers all₀ c₀ all c = (c ≤ channels) × (length all ≡ channels) × (all ≡ tabulate (channelAt numbers) c ++ drop c all₀)
+abbrev invariant_loop : tie.invariant_loop
+invariant_loop numbers all₀ c₀ all c = (c ≤ channels) × (length all ≡ channels) × (all ≡ tabulate (channel_at numbers) c ++ drop c all₀)
 
-abbrev decreases-loop : tie.decreases-loop
-decreases-loop numbers all₀ c₀ all c = channels - c
+abbrev decreases_loop : tie.decreases_loop
+decreases_loop numbers all₀ c₀ all c = channels - c
 
-no-channel-requires : tie.Need-no-channel-requires invariant-loop decreases-loop
-no-channel-requires c κs = search rules
+no_channel_requires : tie.Need-no-channel-requires invariant_loop decreases_loop
+no_channel_requires c κs = search rules
 
-loop-holds : tie.Need-loop-init invariant-loop decreases-loop
-loop-holds c = (omega arith, refl, tabulated-none _ _)
+loop_holds : tie.Need-loop-init invariant_loop decreases_loop
+loop_holds c = (omega arith, refl, tabulated_none _ _)
 
-part-of-requires : tie.Need-part-of-requires invariant-loop decreases-loop
-part-of-requires c κs = (c.before.before.before.before.requires.0, c.loop-test.true)
+part_of_requires : tie.Need-part-of-requires invariant_loop decreases_loop
+part_of_requires c κs = (c.before.before.before.before.requires.0, c.loop-test.true)
 
-channel-by-requires : tie.Need-channel-by-requires invariant-loop decreases-loop
-channel-by-requires c κs =
+channel_by_requires : tie.Need-channel-by-requires invariant_loop decreases_loop
+channel_by_requires c κs =
     let l = c.before.before in
     let start = l.before.before.before in
     let numbers = start.args.numbers.now in
-    rw c.part_of.ensures (length-channel-part numbers start.requires.0 l.loop.c c.before.loop-test.true, start.requires.1 l.loop.c c.before.loop-test.true)
+    rw c.part_of.ensures (length_channel_part numbers start.requires.0 l.loop.c c.before.loop-test.true, start.requires.1 l.loop.c c.before.loop-test.true)
 
-mul-all : tie.Need-overflow-mul-all invariant-loop decreases-loop
-mul-all c = omega arith
+mul_all : tie.Need-overflow-mul-all invariant_loop decreases_loop
+mul_all c = omega arith
 
-array-set-from-all : tie.Need-array-set-from-all invariant-loop decreases-loop
-array-set-from-all c = omega arith
+array_set_from_all : tie.Need-array-set-from-all invariant_loop decreases_loop
+array_set_from_all c = omega arith
 
-add-c : tie.Need-overflow-add-c invariant-loop decreases-loop
-add-c c = omega arith
+add_c : tie.Need-overflow-add-c invariant_loop decreases_loop
+add_c c = omega arith
 
-loop-less : tie.Need-loop-smaller invariant-loop decreases-loop
-loop-less c = omega arith
+loop_less : tie.Need-loop-smaller invariant_loop decreases_loop
+loop_less c = omega arith
 
-loop-again : tie.Need-loop-preserved invariant-loop decreases-loop
-loop-again c =
+loop_again : tie.Need-loop-preserved invariant_loop decreases_loop
+loop_again c =
     let l = c.before.before.before in
     let numbers = l.before.before.before.args.numbers.now in
     let i = l.loop.c in (
       omega arith,
       length-set l.loop.all i c.channel-by.result ∙ l.loop.invariant.1,
-      filled-by-store (channelAt numbers) _ i (omega arith) l.loop.invariant.2 (c.channel-by.ensures ∙ ap channelBy c.before.part_of.ensures),
+      filled_by_store (channel_at numbers) _ i (omega arith) l.loop.invariant.2 (c.channel-by.ensures ∙ ap channel_by c.before.part_of.ensures),
     )
 
-shared-slice-read-t12 : tie.Need-shared-slice-read-t12 invariant-loop decreases-loop
-shared-slice-read-t12 c = omega arith
+shared_slice_read_t12 : tie.Need-shared-slice-read-t12 invariant_loop decreases_loop
+shared_slice_read_t12 c = omega arith
 
-returns : tie.Need-returns invariant-loop decreases-loop
+returns : tie.Need-returns invariant_loop decreases_loop
 unfolding last_by
 returns c =
     let l = c.before.before in
     let numbers = l.before.before.before.args.numbers.now in
     let last : l.loop.c ≡ channels = omega arith in
-    rw (tabulated-to-end (channelAt numbers) channels _ last (omega arith) l.loop.invariant.2)
+    rw (tabulated_to_end (channel_at numbers) channels _ last (omega arith) l.loop.invariant.2)
 
-pub last-by-spec : {M : Type 1} → statement M
-last-by-spec =
+pub last_by_spec : {M : Type 1} → statement M
+last_by_spec =
     tie.close
     (tie.spec
-    invariant-loop
-    decreases-loop
-    no-channel-requires
-    loop-holds
-    part-of-requires
-    channel-by-requires
-    mul-all
-    array-set-from-all
-    add-c
-    loop-less
-    loop-again
-    shared-slice-read-t12
+    invariant_loop
+    decreases_loop
+    no_channel_requires
+    loop_holds
+    part_of_requires
+    channel_by_requires
+    mul_all
+    array_set_from_all
+    add_c
+    loop_less
+    loop_again
+    shared_slice_read_t12
     returns)

@@ -1,15 +1,15 @@
--- `nothing_kept` meets its contract: each channel is `noChannel`.
+-- `nothing_kept` meets its contract: each channel is `no_channel`.
 use borrow.Author.Rules.{rules}
-use Rattle.lastscan.specs.LastScan.{nothingKept}
+use Rattle.lastscan.specs.LastScan.{nothing_kept}
 use Rattle.lastscan.proofs.nothing_kept.Statement.{statement}
 use Rattle.lastscan.proofs.nothing_kept.Tie as tie
 
-no-channel-requires : tie.Need-no-channel-requires
-no-channel-requires c κs = search rules
+no_channel_requires : tie.Need-no-channel-requires
+no_channel_requires c κs = search rules
 
 returns : tie.Need-returns
-unfolding nothingKept
+unfolding nothing_kept
 returns c = rw c.no-channel.ensures
 
-pub nothing-kept-spec : {M : Type 1} → statement M
-nothing-kept-spec = tie.close (tie.spec no-channel-requires returns)
+pub nothing_kept_spec : {M : Type 1} → statement M
+nothing_kept_spec = tie.close (tie.spec no_channel_requires returns)

@@ -8,108 +8,108 @@ use lib.Dec.{lit≤}
 use lib.ListN.{length, set, replicate, drop_of_length-le}
 use borrow.Author.Rules.{rules}
 use Rattle.lists.specs.Build.{put, cells}
-use Rattle.lists.proofs.Cells.{length-cells, put-next-cell}
-use Rattle.lists.proofs.Put.{put-nothing}
+use Rattle.lists.proofs.Cells.{length_cells, put_next_cell}
+use Rattle.lists.proofs.Put.{put_nothing}
 use Rattle.instrument.specs.Instrument.{channels}
-use Rattle.lastscan.specs.Numbers.{lastNumbers, channelNumbers, numbersOf}
-use Rattle.lastscan.proofs.NumberLaws.{numbersAt, range-is-small}
+use Rattle.lastscan.specs.Numbers.{last_numbers, channel_numbers, numbers_of}
+use Rattle.lastscan.proofs.NumberLaws.{numbers_at, range_is_small}
 use Rattle.lastscan.proofs.numbers_of.Statement.{statement}
 use Rattle.lastscan.proofs.numbers_of.Tie as tie
 
 -- before the loop
-abbrev firstOnly : ℕ → List ℕ
-firstOnly first = set (replicate lastNumbers 0) 0 first
+abbrev first_only : ℕ → List ℕ
+first_only first = set (replicate last_numbers 0) 0 first
 
-all-put : (f : ℕ → List ℕ) (first : ℕ) → length (cells f channels) ≡ channels * channelNumbers → put (firstOnly first) 1 (cells f channels) ≡ first ∷ cells f channels
-all-put f first long =
-    ap (λ (l : List ℕ). first ∷ (cells f channels ++ l)) (drop_of_length-le (firstOnly first) {i = 1 + length (cells f channels)} (omega arith))
+all_put : (f : ℕ → List ℕ) (first : ℕ) → length (cells f channels) ≡ channels * channel_numbers → put (first_only first) 1 (cells f channels) ≡ first ∷ cells f channels
+all_put f first long =
+    ap (λ (l : List ℕ). first ∷ (cells f channels ++ l)) (drop_of_length-le (first_only first) {i = 1 + length (cells f channels)} (omega arith))
     ∙ ap (λ (l : List ℕ). first ∷ l) (append-nil (cells f channels))
 
-abbrev invariant-loop : tie.invariant-loop
-invariant-loop all out₀ c₀ out c = (c ≤ channels) × (length out₀ ≡ lastNumbers) × (length out ≡ lastNumbers) × (out ≡ put out₀ 1 (cells (numbersAt all) c))
+abbrev invariant_loop : tie.invariant_loop
+invariant_loop all out₀ c₀ out c = (c ≤ channels) × (length out₀ ≡ last_numbers) × (length out ≡ last_numbers) × (out ≡ put out₀ 1 (cells (numbers_at all) c))
 
-abbrev decreases-loop : tie.decreases-loop
-decreases-loop all out₀ c₀ out c = channels - c
+abbrev decreases_loop : tie.decreases_loop
+decreases_loop all out₀ c₀ out c = channels - c
 
-first-number-requires : tie.Need-first-number-requires invariant-loop decreases-loop
-first-number-requires c κs = search rules
+first_number_requires : tie.Need-first-number-requires invariant_loop decreases_loop
+first_number_requires c κs = search rules
 
-array-write-out : tie.Need-array-write-out invariant-loop decreases-loop
-array-write-out c = search rules
+array_write_out : tie.Need-array-write-out invariant_loop decreases_loop
+array_write_out c = search rules
 
-loop-holds : tie.Need-loop-init invariant-loop decreases-loop
+loop_holds : tie.Need-loop-init invariant_loop decreases_loop
 unfolding cells
-loop-holds c = (omega arith, refl, refl, put-nothing (firstOnly c.first-number.result) 1 (lit≤ tt))
+loop_holds c = (omega arith, refl, refl, put_nothing (first_only c.first-number.result) 1 (lit≤ tt))
 
-slice-aggregate-put-channel : tie.Need-slice-aggregate-put-channel invariant-loop decreases-loop
-slice-aggregate-put-channel c = sym c.before.before.loop.invariant.2
+slice_aggregate_put_channel : tie.Need-slice-aggregate-put-channel invariant_loop decreases_loop
+slice_aggregate_put_channel c = sym c.before.before.loop.invariant.2
 
-mul-put-channel : tie.Need-overflow-mul-put-channel invariant-loop decreases-loop
-mul-put-channel c = omega arith
+mul_put_channel : tie.Need-overflow-mul-put-channel invariant_loop decreases_loop
+mul_put_channel c = omega arith
 
-add-put-channel : tie.Need-overflow-add-put-channel invariant-loop decreases-loop
-add-put-channel c = omega arith
+add_put_channel : tie.Need-overflow-add-put-channel invariant_loop decreases_loop
+add_put_channel c = omega arith
 
-mul-put-channel-2 : tie.Need-overflow-mul-put-channel-2 invariant-loop decreases-loop
-mul-put-channel-2 c = omega arith
+mul_put_channel_2 : tie.Need-overflow-mul-put-channel-2 invariant_loop decreases_loop
+mul_put_channel_2 c = omega arith
 
-array-copy-out-put-channel : tie.Need-array-copy-out-put-channel invariant-loop decreases-loop
-array-copy-out-put-channel c = omega arith
+array_copy_out_put_channel : tie.Need-array-copy-out-put-channel invariant_loop decreases_loop
+array_copy_out_put_channel c = omega arith
 
-put-channel-requires : tie.Need-put-channel-requires invariant-loop decreases-loop
-put-channel-requires c κs =
+put_channel_requires : tie.Need-put-channel-requires invariant_loop decreases_loop
+put_channel_requires c κs =
     let l = c.before.before.before in
-    (omega arith, range-is-small l.before.before.before.requires l.loop.c (omega arith))
+    (omega arith, range_is_small l.before.before.before.requires l.loop.c (omega arith))
 
-add-c : tie.Need-overflow-add-c invariant-loop decreases-loop
-add-c c = omega arith
+add_c : tie.Need-overflow-add-c invariant_loop decreases_loop
+add_c c = omega arith
 
-loop-less : tie.Need-loop-smaller invariant-loop decreases-loop
-loop-less c = omega arith
+loop_less : tie.Need-loop-smaller invariant_loop decreases_loop
+loop_less c = omega arith
 
-loop-again : tie.Need-loop-preserved invariant-loop decreases-loop
-loop-again c =
+loop_again : tie.Need-loop-preserved invariant_loop decreases_loop
+loop_again c =
     let w = c.before in
     let l = w.before.before.before.before in
     let first = l.before in
-    let f = numbersAt first.before.before.args.last.channels in
+    let f = numbers_at first.before.before.args.last.channels in
     let i = l.loop.c in (
       omega arith,
       refl,
       w.put-channel.auto.0 ∙ l.loop.invariant.2,
       w.put-channel.ensures
-          ∙ ap (λ (b : List ℕ). put b (1 + channelNumbers * i) (f i)) l.loop.invariant.3
-          ∙ put-next-cell f channelNumbers (λ _. refl) (firstOnly first.first-number.result) 1 i (omega arith),
+          ∙ ap (λ (b : List ℕ). put b (1 + channel_numbers * i) (f i)) l.loop.invariant.3
+          ∙ put_next_cell f channel_numbers (λ _. refl) (first_only first.first-number.result) 1 i (omega arith),
     )
 
-returns : tie.Need-returns invariant-loop decreases-loop
-unfolding numbersOf
+returns : tie.Need-returns invariant_loop decreases_loop
+unfolding numbers_of
 returns c =
     let l = c.before in
     let first = l.before in
-    let f = numbersAt first.before.before.args.last.channels in
+    let f = numbers_at first.before.before.args.last.channels in
     let last : l.loop.c ≡ channels = omega arith in
     l.loop.invariant.3
-    ∙ ap (λ (n : ℕ). put (firstOnly first.first-number.result) 1 (cells f n)) last
-    ∙ all-put f first.first-number.result (length-cells f channelNumbers (λ _. refl) channels)
+    ∙ ap (λ (n : ℕ). put (first_only first.first-number.result) 1 (cells f n)) last
+    ∙ all_put f first.first-number.result (length_cells f channel_numbers (λ _. refl) channels)
     ∙ ap (λ (n : ℕ). n ∷ cells f channels) first.first-number.ensures
 
-pub numbers-of-spec : {M : Type 1} → statement M
-numbers-of-spec =
+pub numbers_of_spec : {M : Type 1} → statement M
+numbers_of_spec =
     tie.close
     (tie.spec
-    invariant-loop
-    decreases-loop
-    first-number-requires
-    array-write-out
-    loop-holds
-    slice-aggregate-put-channel
-    mul-put-channel
-    add-put-channel
-    mul-put-channel-2
-    array-copy-out-put-channel
-    put-channel-requires
-    add-c
-    loop-less
-    loop-again
+    invariant_loop
+    decreases_loop
+    first_number_requires
+    array_write_out
+    loop_holds
+    slice_aggregate_put_channel
+    mul_put_channel
+    add_put_channel
+    mul_put_channel_2
+    array_copy_out_put_channel
+    put_channel_requires
+    add_c
+    loop_less
+    loop_again
     returns)

@@ -8,53 +8,53 @@ use lib.Signed.{◌≤ℤ◌, non_neg}
 use mir.Syntax.{w32, w64}
 use mir.Val.{Fits, to_z, of_z}
 use Rattle.integers.specs.Bounds.{Bounded}
-use Rattle.integers.proofs.Bounds.{bounded-size}
-use Rattle.integers.proofs.Machine.{bounded-fits, reads-back, unsigned-fits}
+use Rattle.integers.proofs.Bounds.{bounded_size}
+use Rattle.integers.proofs.Machine.{bounded_fits, reads_back, unsigned_fits}
 use borrow.Author.Rules.{rules}
 use Rattle.lastscan.proofs.numbers_of_channel.Statement.{statement}
 use Rattle.lastscan.proofs.numbers_of_channel.Tie as tie
 
 module _ {x : ℤ} {m : ℕ} (within : Bounded x (pos m)) where
   back : m < 9223372036854775808 → to_z w64 (of_z w64 x) ≡ x
-  back small = reads-back (bounded-fits within small)
+  back small = reads_back (bounded_fits within small)
 
   cast_fits : pos 0 ≤ℤ x → m < 4294967296 → T (non_neg (to_z w64 (of_z w64 x))) × Fits w32 (nat_abs (to_z w64 (of_z w64 x)))
   cast_fits not_negative small =
       rw (back (omega arith))
-      ((unsigned-fits not_negative (bounded-fits within (omega arith))).0, record { fits = omega (arith, bounded-size within) })
+      ((unsigned_fits not_negative (bounded_fits within (omega arith))).0, record { fits = omega (arith, bounded_size within) })
 
-halves-of-requires : tie.Need-halves-of-requires
-halves-of-requires c κs = search rules
+halves_of_requires : tie.Need-halves-of-requires
+halves_of_requires c κs = search rules
 
-halves-of-requires-2 : tie.Need-halves-of-requires-2
-halves-of-requires-2 c κs = search rules
+halves_of_requires_2 : tie.Need-halves-of-requires-2
+halves_of_requires_2 c κs = search rules
 
-cast-t6 : tie.Need-overflow-cast-t6
-cast-t6 c = search rules
+cast_t6 : tie.Need-overflow-cast-t6
+cast_t6 c = search rules
 
-cast-t7 : tie.Need-overflow-cast-t7
-cast-t7 c = let h = c.before.before.before.before.before.before.before.before.requires in cast_fits h.tc h.tc-low (lit< tt)
+cast_t7 : tie.Need-overflow-cast-t7
+cast_t7 c = let h = c.before.before.before.before.before.before.before.before.requires in cast_fits h.tc h.tc_low (lit< tt)
 
-cast-t8 : tie.Need-overflow-cast-t8
-cast-t8 c = let h = c.before.before.before.before.before.before.before.before.before.before.requires in cast_fits h.rise h.rise-low (lit< tt)
+cast_t8 : tie.Need-overflow-cast-t8
+cast_t8 c = let h = c.before.before.before.before.before.before.before.before.before.before.requires in cast_fits h.rise h.rise-low (lit< tt)
 
-complement-of-requires : tie.Need-complement-of-requires
-complement-of-requires c κs = search rules
+complement_of_requires : tie.Need-complement-of-requires
+complement_of_requires c κs = search rules
 
-array-read-t12 : tie.Need-array-read-t12
-array-read-t12 c = search rules
+array_read_t12 : tie.Need-array-read-t12
+array_read_t12 c = search rules
 
-array-read-t15 : tie.Need-array-read-t15
-array-read-t15 c = search rules
+array_read_t15 : tie.Need-array-read-t15
+array_read_t15 c = search rules
 
-cast-t16 : tie.Need-overflow-cast-t16
-cast-t16 c = let h = c.before.before.before.before.before.before.before.before.before.before.before.before.before.before.requires in cast_fits h.slope h.slope-low (lit< tt)
+cast_t16 : tie.Need-overflow-cast-t16
+cast_t16 c = let h = c.before.before.before.before.before.before.before.before.before.before.before.before.before.before.requires in cast_fits h.slope h.slope-low (lit< tt)
 
-array-read-t19 : tie.Need-array-read-t19
-array-read-t19 c = search rules
+array_read_t19 : tie.Need-array-read-t19
+array_read_t19 c = search rules
 
-array-read-t22 : tie.Need-array-read-t22
-array-read-t22 c = search rules
+array_read_t22 : tie.Need-array-read-t22
+array_read_t22 c = search rules
 
 returns : tie.Need-returns
 returns c =
@@ -64,19 +64,19 @@ returns c =
     let h = d.before.before.before.requires in
     rw (tnl.complement-of.ensures, base.halves-of2.ensures, d.halves_of.ensures, back h.tc (lit< tt), back h.rise (lit< tt), back h.tnl (lit< tt), back h.d (lit< tt), back h.slope (lit< tt), back h.base (lit< tt))
 
-pub numbers-of-channel-spec : {M : Type 1} → statement M
-numbers-of-channel-spec =
+pub numbers_of_channel_spec : {M : Type 1} → statement M
+numbers_of_channel_spec =
     tie.close
     (tie.spec
-    halves-of-requires
-    halves-of-requires-2
-    cast-t6
-    cast-t7
-    cast-t8
-    complement-of-requires
-    array-read-t12
-    array-read-t15
-    cast-t16
-    array-read-t19
-    array-read-t22
+    halves_of_requires
+    halves_of_requires_2
+    cast_t6
+    cast_t7
+    cast_t8
+    complement_of_requires
+    array_read_t12
+    array_read_t15
+    cast_t16
+    array_read_t19
+    array_read_t22
     returns)

@@ -1,8 +1,8 @@
 -- `part_of` meets its contract: the part of the slice is taken behind what is dropped.
 use Prim.Native.Nat.{◌+◌, ◌*◌}
 use borrow.Author.Rules.{rules}
-use Rattle.lists.proofs.Put.{part-is-take}
-use Rattle.lastscan.specs.Numbers.{channelNumbers}
+use Rattle.lists.proofs.Put.{part_is_take}
+use Rattle.lastscan.specs.Numbers.{channel_numbers}
 use Rattle.lastscan.proofs.part_of.Statement.{statement}
 use Rattle.lastscan.proofs.part_of.Tie as tie
 
@@ -12,33 +12,33 @@ mul_at c = search rules
 add_at : tie.Need-overflow-add-at
 add_at c = search rules
 
-add-result : tie.Need-overflow-add-result
-add-result c = search rules
+add_result : tie.Need-overflow-add-result
+add_result c = search rules
 
-mul-result : tie.Need-overflow-mul-result
-mul-result c = search rules
+mul_result : tie.Need-overflow-mul-result
+mul_result c = search rules
 
-sub-result : tie.Need-overflow-sub-result
-sub-result c = search rules
+sub_result : tie.Need-overflow-sub-result
+sub_result c = search rules
 
-part-result-start : tie.Need-slice-bounds-result-start
-part-result-start c = search rules
+part_result_start : tie.Need-slice-bounds-result-start
+part_result_start c = search rules
 
-part-result-end : tie.Need-slice-bounds-result-end
-part-result-end c = search rules
+part_result_end : tie.Need-slice-bounds-result-end
+part_result_end c = search rules
 
 returns : tie.Need-returns
-returns c = let a = c.before.args in part-is-take a.numbers.now (1 + channelNumbers * a.c) channelNumbers
+returns c = let a = c.before.args in part_is_take a.numbers.now (1 + channel_numbers * a.c) channel_numbers
 
-pub part-of-spec : {M : Type 1} → statement M
-part-of-spec =
+pub part_of_spec : {M : Type 1} → statement M
+part_of_spec =
     tie.close
     (tie.spec
     mul_at
     add_at
-    add-result
-    mul-result
-    sub-result
-    part-result-start
-    part-result-end
+    add_result
+    mul_result
+    sub_result
+    part_result_start
+    part_result_end
     returns)

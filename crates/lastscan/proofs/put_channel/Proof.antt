@@ -5,14 +5,14 @@ use Rattle.lists.specs.Build.{put}
 use Rattle.lastscan.proofs.put_channel.Statement.{statement}
 use Rattle.lastscan.proofs.put_channel.Tie as tie
 
-numbers-of-channel-requires : tie.Need-numbers-of-channel-requires
-numbers-of-channel-requires c κs = search rules
+numbers_of_channel_requires : tie.Need-numbers-of-channel-requires
+numbers_of_channel_requires c κs = search rules
 
-slice-aggregate-copy : tie.Need-slice-aggregate-copy
-slice-aggregate-copy c = search rules
+slice_aggregate_copy : tie.Need-slice-aggregate-copy
+slice_aggregate_copy c = search rules
 
-copy-requires : tie.Need-copy-requires
-copy-requires c κs = search rules
+copy_requires : tie.Need-copy-requires
+copy_requires c κs = search rules
 
 same_length : tie.Need-same-length
 same_length c = search rules
@@ -24,7 +24,7 @@ returns c =
     let a = numbers.before.before.args in
     copied.copy.ensures ∙ ap (put a.out.now a.at) numbers.numbers-of-channel.ensures
 
-pub put-channel-spec : {M : Type 1} → statement M
-put-channel-spec =
+pub put_channel_spec : {M : Type 1} → statement M
+put_channel_spec =
     tie.close
-    (tie.spec numbers-of-channel-requires slice-aggregate-copy copy-requires same_length returns)
+    (tie.spec numbers_of_channel_requires slice_aggregate_copy copy_requires same_length returns)

@@ -6,107 +6,107 @@ use lib.ListN.{length, length-take, length-replicate}
 use Rattle.lists.specs.Build.{put}
 use Rattle.calibrator.specs.declared.Calibrator.{Calibrator}
 use Rattle.calibrator.specs.declared.Answer.{Answer}
-use Rattle.calibrator.specs.Refusals.{Reply, replyOf}
+use Rattle.calibrator.specs.Refusals.{Reply, reply_of}
 use Rattle.lines.specs.declared.Calibrated.{Calibrated}
-use Rattle.product.specs.Product.{productSize}
-use Rattle.lines.specs.Steps.{emptyProduct, recordFed, outputSize, errorLine, calibratedLine, calibratedOf}
-use Rattle.lines.proofs.LineLaws.{refused-line-of-error, calibrator-of-length, reply-of-length}
+use Rattle.product.specs.Product.{product_size}
+use Rattle.lines.specs.Steps.{empty_product, record_fed, output_size, error_line, calibrated_line, calibrated_of}
+use Rattle.lines.proofs.LineLaws.{refused_line_of_error, calibrator_of_length, reply_of_length}
 use borrow.Author.Rules.{rules}
 use Rattle.lines.proofs.calibrate_record.Statement.{statement}
 use Rattle.lines.proofs.calibrate_record.Tie as tie
 
-length-product : (c : tie.After-feed-arg) → length c.before.before.args.product.now ≡ productSize
-length-product c = omega arith
+length_product : (c : tie.After-feed-arg) → length c.before.before.args.product.now ≡ product_size
+length_product c = omega arith
 
 -- with a buffer of this length the calibrator and the answer are those of the definitions
 module _ (c : tie.After-feed) where
-  same_length : length c.before.before.before.args.product.now ≡ length emptyProduct
-  unfolding emptyProduct
-  same_length = length-product c.before ∙ sym (length-replicate {A = ℕ} productSize 0)
+  same_length : length c.before.before.before.args.product.now ≡ length empty_product
+  unfolding empty_product
+  same_length = length_product c.before ∙ sym (length-replicate {A = ℕ} product_size 0)
 
-  calibrator-is : let a = c.before.before.before.args in c.feed.result.calibrator ≡ (recordFed a.calibrator a.scan.now).calibrator
-  calibrator-is = let a = c.before.before.before.args in c.feed.ensures.0.calibrator-is ∙ calibrator-of-length a.calibrator a.scan.now a.product.now emptyProduct same_length
+  calibrator_is : let a = c.before.before.before.args in c.feed.result.calibrator ≡ (record_fed a.calibrator a.scan.now).calibrator
+  calibrator_is = let a = c.before.before.before.args in c.feed.ensures.0.calibrator_is ∙ calibrator_of_length a.calibrator a.scan.now a.product.now empty_product same_length
 
-  reply-is : let a = c.before.before.before.args in replyOf c.feed.result.answer ≡ (recordFed a.calibrator a.scan.now).outcome.reply
-  reply-is = let a = c.before.before.before.args in c.feed.ensures.0.reply-is ∙ reply-of-length a.calibrator a.scan.now a.product.now emptyProduct same_length
+  reply_is : let a = c.before.before.before.args in reply_of c.feed.result.answer ≡ (record_fed a.calibrator a.scan.now).outcome.reply
+  reply_is = let a = c.before.before.before.args in c.feed.ensures.0.reply_is ∙ reply_of_length a.calibrator a.scan.now a.product.now empty_product same_length
 
 -- the sizes by an answer
 abbrev answered : Calibrator → Reply → Calibrated
-answered next reply = record { calibrator = next; output = outputSize reply; errors = length (errorLine reply) }
+answered next reply = record { calibrator = next; output = output_size reply; errors = length (error_line reply) }
 
 module _ (c : tie.After-feed) where
-  step-of-feed : let a = c.before.before.before.args in
-      answered c.feed.result.calibrator (replyOf c.feed.result.answer) ≡ calibratedOf a.calibrator a.scan.now
-  unfolding calibratedOf calibratedLine
-  step-of-feed = ap₂ answered (calibrator-is c) (reply-is c)
+  step_of_feed : let a = c.before.before.before.args in
+      answered c.feed.result.calibrator (reply_of c.feed.result.answer) ≡ calibrated_of a.calibrator a.scan.now
+  unfolding calibrated_of calibrated_line
+  step_of_feed = ap₂ answered (calibrator_is c) (reply_is c)
 
-  line-of-feed : let a = c.before.before.before.args in errorLine (replyOf c.feed.result.answer) ≡ calibratedLine a.calibrator a.scan.now
-  unfolding calibratedLine
-  line-of-feed = ap errorLine (reply-is c)
+  line_of_feed : let a = c.before.before.before.args in error_line (reply_of c.feed.result.answer) ≡ calibrated_line a.calibrator a.scan.now
+  unfolding calibrated_line
+  line_of_feed = ap error_line (reply_is c)
 
-feed-requires : tie.Need-feed-requires
-feed-requires c κs = search rules
+feed_requires : tie.Need-feed-requires
+feed_requires c κs = search rules
 
 enum_told : tie.Need-enum-told
 enum_told c = search rules
 
-enum-told-2 : tie.Need-enum-told-2
-enum-told-2 c = search rules
+enum_told_2 : tie.Need-enum-told-2
+enum_told_2 c = search rules
 
-answer-number-requires : tie.Need-answer-number-requires
-answer-number-requires c κs = search rules
+answer_number_requires : tie.Need-answer-number-requires
+answer_number_requires c κs = search rules
 
-refused-line-requires : tie.Need-refused-line-requires
-refused-line-requires c κs = search rules
+refused_line_requires : tie.Need-refused-line-requires
+refused_line_requires c κs = search rules
 
 returns : tie.Need-returns
-unfolding outputSize errorLine
+unfolding output_size error_line
 returns c =
     let fed = c.before.before.before in
     let a = fed.before.before.before.args in
-    let told = ap replyOf (sym c.enum_told.given.1) in
-    let long : length fed.feed.new.1.1.0 ≡ productSize = fed.feed.auto.1.1.0 ∙ length-product fed.before in (
+    let told = ap reply_of (sym c.enum_told.given.1) in
+    let long : length fed.feed.new.1.1.0 ≡ product_size = fed.feed.auto.1.1.0 ∙ length_product fed.before in (
       (omega arith, simp length-take (omega arith)),
       (
         (omega arith, refl),
         (
-          ap (answered fed.feed.result.calibrator) told ∙ step-of-feed fed,
+          ap (answered fed.feed.result.calibrator) told ∙ step_of_feed fed,
           fed.feed.ensures.0.buffer-is,
-          ap (λ (reply : Reply). put a.line.now 0 (errorLine reply)) told ∙ ap (put a.line.now 0) (line-of-feed fed),
+          ap (λ (reply : Reply). put a.line.now 0 (error_line reply)) told ∙ ap (put a.line.now 0) (line_of_feed fed),
           fed.feed.ensures.1,
         ),
       ),
     )
 
-returns-2 : tie.Need-returns-2
-unfolding outputSize
-returns-2 c =
+returns_2 : tie.Need-returns-2
+unfolding output_size
+returns_2 c =
     let told = c.before.before.before in
     let fed = told.before.before.before in
     let a = fed.before.before.before.args in
-    let line = refused-line-of-error told.enum-told2.given.1 c.before.before.answer-number.ensures in (
+    let line = refused_line_of_error told.enum-told2.given.1 c.before.before.answer-number.ensures in (
       (omega arith, refl),
       (
         c.refused-line.ensures.0,
         (
           ap₂ (λ (output errors : ℕ). record { calibrator = fed.feed.result.calibrator; output = output; errors = errors })
-              (ap (λ (answer : Answer). outputSize (replyOf answer)) (sym told.enum-told2.given.1)) (c.refused-line.ensures.1.0 ∙ ap length line)
-              ∙ step-of-feed fed,
+              (ap (λ (answer : Answer). output_size (reply_of answer)) (sym told.enum-told2.given.1)) (c.refused-line.ensures.1.0 ∙ ap length line)
+              ∙ step_of_feed fed,
           fed.feed.ensures.0.buffer-is,
-          c.refused-line.ensures.1.1 ∙ ap (put a.line.now 0) (line ∙ line-of-feed fed),
+          c.refused-line.ensures.1.1 ∙ ap (put a.line.now 0) (line ∙ line_of_feed fed),
           fed.feed.ensures.1,
         ),
       ),
     )
 
-pub calibrate-record-spec : {M : Type 1} → statement M
-calibrate-record-spec =
+pub calibrate_record_spec : {M : Type 1} → statement M
+calibrate_record_spec =
     tie.close
     (tie.spec
-    feed-requires
+    feed_requires
     enum_told
-    enum-told-2
-    answer-number-requires
-    refused-line-requires
+    enum_told_2
+    answer_number_requires
+    refused_line_requires
     returns
-    returns-2)
+    returns_2)

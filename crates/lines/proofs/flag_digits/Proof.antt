@@ -5,71 +5,71 @@ use mathlib.Core.Path.{◌≡◌, ap, ◌∙◌}
 use mathlib.Core.List.{List, ◌++◌}
 use lib.ListN.{length, get_or, set, drop, replicate, length-set}
 use Rattle.lists.specs.Build.{tabulate}
-use Rattle.lists.proofs.Tabulate.{tabulated-none, tabulated-more, tabulated-all}
+use Rattle.lists.proofs.Tabulate.{tabulated_none, tabulated_more, tabulated_all}
 use Rattle.instrument.specs.Instrument.{channels}
-use Rattle.lines.specs.Lines.{flagDigits}
+use Rattle.lines.specs.Lines.{flag_digits}
 use borrow.Author.Rules.{rules}
 use Rattle.lines.proofs.flag_digits.Statement.{statement}
 use Rattle.lines.proofs.flag_digits.Tie as tie
 
-abbrev digitAt : List ℕ → ℕ → ℕ
-digitAt flags c = 48 + get_or flags c 0 % 10
+abbrev digit_at : List ℕ → ℕ → ℕ
+digit_at flags c = 48 + get_or flags c 0 % 10
 
-abbrev invariant-loop : tie.invariant-loop
-invariant-loop flags digits₀ c₀ digits c = (c ≤ channels) × (length digits ≡ channels) × (digits ≡ tabulate (digitAt flags) c ++ drop c digits₀)
+abbrev invariant_loop : tie.invariant_loop
+invariant_loop flags digits₀ c₀ digits c = (c ≤ channels) × (length digits ≡ channels) × (digits ≡ tabulate (digit_at flags) c ++ drop c digits₀)
 
-abbrev decreases-loop : tie.decreases-loop
-decreases-loop flags digits₀ c₀ digits c = channels - c
+abbrev decreases_loop : tie.decreases_loop
+decreases_loop flags digits₀ c₀ digits c = channels - c
 
-loop-holds : tie.Need-loop-init invariant-loop decreases-loop
-loop-holds c = (omega arith, search rules, tabulated-none (digitAt c.args.flags.now) _)
+loop_holds : tie.Need-loop-init invariant_loop decreases_loop
+loop_holds c = (omega arith, search rules, tabulated_none (digit_at c.args.flags.now) _)
 
-shared-slice-read-digits : tie.Need-shared-slice-read-digits invariant-loop decreases-loop
-shared-slice-read-digits c = omega arith
+shared_slice_read_digits : tie.Need-shared-slice-read-digits invariant_loop decreases_loop
+shared_slice_read_digits c = omega arith
 
-add-digits : tie.Need-overflow-add-digits invariant-loop decreases-loop
-add-digits c = search rules
+add_digits : tie.Need-overflow-add-digits invariant_loop decreases_loop
+add_digits c = search rules
 
-array-write-digits : tie.Need-array-write-digits invariant-loop decreases-loop
-array-write-digits c = search rules
+array_write_digits : tie.Need-array-write-digits invariant_loop decreases_loop
+array_write_digits c = search rules
 
-add-c : tie.Need-overflow-add-c invariant-loop decreases-loop
-add-c c = omega arith
+add_c : tie.Need-overflow-add-c invariant_loop decreases_loop
+add_c c = omega arith
 
-loop-less : tie.Need-loop-smaller invariant-loop decreases-loop
-loop-less c = omega arith
+loop_less : tie.Need-loop-smaller invariant_loop decreases_loop
+loop_less c = omega arith
 
-loop-again : tie.Need-loop-preserved invariant-loop decreases-loop
-loop-again c =
+loop_again : tie.Need-loop-preserved invariant_loop decreases_loop
+loop_again c =
     let l = c.before.before in
-    let digit = digitAt l.before.args.flags.now in (
+    let digit = digit_at l.before.args.flags.now in (
       omega arith,
       simp length-set l.loop.invariant.1,
       ap (λ (d : List ℕ). set d l.loop.c (digit l.loop.c)) l.loop.invariant.2
-          ∙ tabulated-more digit l.loop.c _ (omega arith),
+          ∙ tabulated_more digit l.loop.c _ (omega arith),
     )
 
-returns : tie.Need-returns invariant-loop decreases-loop
-unfolding flagDigits
+returns : tie.Need-returns invariant_loop decreases_loop
+unfolding flag_digits
 returns c =
     let l = c.before in
-    let digit = digitAt l.before.args.flags.now in
+    let digit = digit_at l.before.args.flags.now in
     let last : l.loop.c ≡ channels = omega arith in
     l.loop.invariant.2
     ∙ ap (λ (n : ℕ). tabulate digit n ++ drop n (replicate channels 0)) last
-    ∙ tabulated-all digit channels (replicate channels 0) (omega arith)
+    ∙ tabulated_all digit channels (replicate channels 0) (omega arith)
 
-pub flag-digits-spec : {M : Type 1} → statement M
-flag-digits-spec =
+pub flag_digits_spec : {M : Type 1} → statement M
+flag_digits_spec =
     tie.close
     (tie.spec
-    invariant-loop
-    decreases-loop
-    loop-holds
-    shared-slice-read-digits
-    add-digits
-    array-write-digits
-    add-c
-    loop-less
-    loop-again
+    invariant_loop
+    decreases_loop
+    loop_holds
+    shared_slice_read_digits
+    add_digits
+    array_write_digits
+    add_c
+    loop_less
+    loop_again
     returns)

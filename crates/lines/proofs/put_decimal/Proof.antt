@@ -7,39 +7,39 @@ use lib.ListN.{length, take}
 use Rattle.io.specs.Digits.{IsDigitCount, last_digits}
 use Rattle.lists.specs.Build.{put}
 use Rattle.lines.specs.Lines.{decimal}
-use Rattle.lines.proofs.DecimalLaws.{digits-are-decimal, ten-digits}
+use Rattle.lines.proofs.DecimalLaws.{digits_are_decimal, ten_digits}
 use borrow.Author.Rules.{rules}
 use Rattle.lines.proofs.put_decimal.Statement.{statement}
 use Rattle.lines.proofs.put_decimal.Tie as tie
 
-few-digits : (c : tie.After-decimal) → IsDigitCount 10 1 c.before.before.before.before.args.n c.decimal.result
-few-digits c = subst (λ (m : ℕ). IsDigitCount 10 1 m c.decimal.result) c.before.before.wide.ensures c.decimal.ensures.1.0
+few_digits : (c : tie.After-decimal) → IsDigitCount 10 1 c.before.before.before.before.args.n c.decimal.result
+few_digits c = subst (λ (m : ℕ). IsDigitCount 10 1 m c.decimal.result) c.before.before.wide.ensures c.decimal.ensures.1.0
 
-text-is-decimal : (c : tie.After-decimal)
+text_is_decimal : (c : tie.After-decimal)
     → take c.decimal.result c.decimal.new.1.0 ≡ decimal c.before.before.before.before.args.n
-text-is-decimal c =
+text_is_decimal c =
     let n = c.before.before.before.before.args.n in
     c.decimal.ensures.1.1
     ∙ ap (λ (m : ℕ). last_digits 10 c.decimal.result m) c.before.before.wide.ensures
-    ∙ digits-are-decimal n c.decimal.result (few-digits c)
+    ∙ digits_are_decimal n c.decimal.result (few_digits c)
 
-at-most-ten : (c : tie.After-decimal) → c.decimal.result ≤ 10
-at-most-ten c = ten-digits c.before.before.before.before.args.n c.decimal.result (few-digits c) (omega arith)
+at_most_ten : (c : tie.After-decimal) → c.decimal.result ≤ 10
+at_most_ten c = ten_digits c.before.before.before.before.args.n c.decimal.result (few_digits c) (omega arith)
 
-wide-requires : tie.Need-wide-requires
-wide-requires c κs = search rules
+wide_requires : tie.Need-wide-requires
+wide_requires c κs = search rules
 
-decimal-requires : tie.Need-decimal-requires
-decimal-requires c κs = search rules
+decimal_requires : tie.Need-decimal-requires
+decimal_requires c κs = search rules
 
-array-share-prefix-text : tie.Need-array-share-prefix-text
-array-share-prefix-text c = search rules
+array_share_prefix_text : tie.Need-array-share-prefix-text
+array_share_prefix_text c = search rules
 
-slice-aggregate-put-text : tie.Need-slice-aggregate-put-text
-slice-aggregate-put-text c = search rules
+slice_aggregate_put_text : tie.Need-slice-aggregate-put-text
+slice_aggregate_put_text c = search rules
 
-put-text-requires : tie.Need-put-text-requires
-put-text-requires c κs = omega (arith, at-most-ten c.before.before)
+put_text_requires : tie.Need-put-text-requires
+put_text_requires c κs = omega (arith, at_most_ten c.before.before)
 
 same_length : tie.Need-same-length
 same_length c = search rules
@@ -49,19 +49,19 @@ returns c =
     let w = c.before.before in
     let d = w.before.before.before in
     let a = d.before.before.before.before.args in (
-      omega (arith, at-most-ten d),
-      w.put-text.ensures.0 ∙ ap (λ (t : List ℕ). a.at + length t) (text-is-decimal d),
-      w.put-text.ensures.1 ∙ ap (λ (t : List ℕ). put a.out.now a.at t) (text-is-decimal d),
+      omega (arith, at_most_ten d),
+      w.put-text.ensures.0 ∙ ap (λ (t : List ℕ). a.at + length t) (text_is_decimal d),
+      w.put-text.ensures.1 ∙ ap (λ (t : List ℕ). put a.out.now a.at t) (text_is_decimal d),
     )
 
-pub put-decimal-spec : {M : Type 1} → statement M
-put-decimal-spec =
+pub put_decimal_spec : {M : Type 1} → statement M
+put_decimal_spec =
     tie.close
     (tie.spec
-    wide-requires
-    decimal-requires
-    array-share-prefix-text
-    slice-aggregate-put-text
-    put-text-requires
+    wide_requires
+    decimal_requires
+    array_share_prefix_text
+    slice_aggregate_put_text
+    put_text_requires
     same_length
     returns)

@@ -5,17 +5,17 @@ use mathlib.Core.Path.{sym, ap, ◌∙◌}
 use mathlib.Core.List.{List}
 use lib.ListN.{length-append}
 use Rattle.lists.specs.Build.{put}
-use Rattle.lists.proofs.Put.{put-after-put}
+use Rattle.lists.proofs.Put.{put_after_put}
 use Rattle.lines.specs.Lines.{decimal}
 use borrow.Author.Rules.{rules}
 use Rattle.lines.proofs.put_labelled.Statement.{statement}
 use Rattle.lines.proofs.put_labelled.Tie as tie
 
-put-text-requires : tie.Need-put-text-requires
-put-text-requires c κs = search rules
+put_text_requires : tie.Need-put-text-requires
+put_text_requires c κs = search rules
 
-put-decimal-requires : tie.Need-put-decimal-requires
-put-decimal-requires c κs = search rules
+put_decimal_requires : tie.Need-put-decimal-requires
+put_decimal_requires c κs = search rules
 
 same_length : tie.Need-same-length
 same_length c = search rules
@@ -32,8 +32,8 @@ returns c =
       omega (arith, length-append label digits),
       w.put-decimal.ensures.2
           ∙ ap (λ (l : List ℕ). put l t.put-text.result digits) t.put-text.ensures.1
-          ∙ put-after-put out label digits a.at t.put-text.result (sym t.put-text.ensures.0) (omega arith),
+          ∙ put_after_put out label digits a.at t.put-text.result (sym t.put-text.ensures.0) (omega arith),
     )
 
-pub put-labelled-spec : {M : Type 1} → statement M
-put-labelled-spec = tie.close (tie.spec put-text-requires put-decimal-requires same_length returns)
+pub put_labelled_spec : {M : Type 1} → statement M
+put_labelled_spec = tie.close (tie.spec put_text_requires put_decimal_requires same_length returns)

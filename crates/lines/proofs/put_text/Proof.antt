@@ -10,32 +10,32 @@ use borrow.Author.Rules.{rules}
 use Rattle.lines.proofs.put_text.Statement.{statement}
 use Rattle.lines.proofs.put_text.Tie as tie
 
-abbrev invariant-loop : tie.invariant-loop
-invariant-loop out₀ at text i₀ i-end out i = (i ≤ length text) × (length out ≡ length out₀) × (out ≡ paste out₀ at text i)
+abbrev invariant_loop : tie.invariant_loop
+invariant_loop out₀ at text i₀ i-end out i = (i ≤ length text) × (length out ≡ length out₀) × (out ≡ paste out₀ at text i)
 
-abbrev decreases-loop : tie.decreases-loop
-decreases-loop out₀ at text i₀ i-end out i = length text - i
+abbrev decreases_loop : tie.decreases_loop
+decreases_loop out₀ at text i₀ i-end out i = length text - i
 
-loop-holds : tie.Need-loop-init invariant-loop decreases-loop
-loop-holds c = (omega arith, search rules, paste-zero c.args.out.now c.args.at c.args.text.now)
+loop_holds : tie.Need-loop-init invariant_loop decreases_loop
+loop_holds c = (omega arith, search rules, paste-zero c.args.out.now c.args.at c.args.text.now)
 
-shared-slice-read-out : tie.Need-shared-slice-read-out invariant-loop decreases-loop
-shared-slice-read-out c = omega arith
+shared_slice_read_out : tie.Need-shared-slice-read-out invariant_loop decreases_loop
+shared_slice_read_out c = omega arith
 
-add-out : tie.Need-overflow-add-out invariant-loop decreases-loop
-add-out c = omega arith
+add_out : tie.Need-overflow-add-out invariant_loop decreases_loop
+add_out c = omega arith
 
-slice-write-out : tie.Need-slice-write-out invariant-loop decreases-loop
-slice-write-out c = omega arith
+slice_write_out : tie.Need-slice-write-out invariant_loop decreases_loop
+slice_write_out c = omega arith
 
-add-i : tie.Need-overflow-add-i invariant-loop decreases-loop
-add-i c = omega arith
+add_i : tie.Need-overflow-add-i invariant_loop decreases_loop
+add_i c = omega arith
 
-loop-less : tie.Need-loop-smaller invariant-loop decreases-loop
-loop-less c = omega arith
+loop_less : tie.Need-loop-smaller invariant_loop decreases_loop
+loop_less c = omega arith
 
-loop-again : tie.Need-loop-preserved invariant-loop decreases-loop
-loop-again c =
+loop_again : tie.Need-loop-preserved invariant_loop decreases_loop
+loop_again c =
     let l = c.before.before in
     let a = l.before.args in
     let out = a.out.now in
@@ -47,13 +47,13 @@ loop-again c =
           ∙ ap (λ (n : ℕ). paste out a.at text n) (sym (add-one l.loop.i)),
     )
 
-add-result : tie.Need-overflow-add-result invariant-loop decreases-loop
-add-result c = omega arith
+add_result : tie.Need-overflow-add-result invariant_loop decreases_loop
+add_result c = omega arith
 
-same_length : tie.Need-same-length invariant-loop decreases-loop
+same_length : tie.Need-same-length invariant_loop decreases_loop
 same_length c = search rules
 
-returns : tie.Need-returns invariant-loop decreases-loop
+returns : tie.Need-returns invariant_loop decreases_loop
 returns c =
     let l = c.before in
     let a = l.before.args in
@@ -66,19 +66,19 @@ returns c =
           ∙ ap (λ (t : List ℕ). take a.at out ++ t ++ drop (a.at + length text) out) (take-length text),
     )
 
-pub put-text-spec : {M : Type 1} → statement M
-put-text-spec =
+pub put_text_spec : {M : Type 1} → statement M
+put_text_spec =
     tie.close
     (tie.spec
-    invariant-loop
-    decreases-loop
-    loop-holds
-    shared-slice-read-out
-    add-out
-    slice-write-out
-    add-i
-    loop-less
-    loop-again
-    add-result
+    invariant_loop
+    decreases_loop
+    loop_holds
+    shared_slice_read_out
+    add_out
+    slice_write_out
+    add_i
+    loop_less
+    loop_again
+    add_result
     same_length
     returns)

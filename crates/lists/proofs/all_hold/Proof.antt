@@ -10,64 +10,64 @@ use lib.ListN.{length, get_or, drop, drop_of_length-le}
 use lib.Seq.{drop-cons}
 use borrow.Author.Rules.{rules}
 use borrow.Author.Tests.{not-true, not-false}
-use Rattle.lists.specs.Count.{allHold}
+use Rattle.lists.specs.Count.{all_hold}
 use Rattle.lists.proofs.all_hold.Statement.{statement}
 use Rattle.lists.proofs.all_hold.Tie as tie
 
 module _ (tests : List Bool) (k : ℕ) (inside : k < length tests) where
-  ended : get_or tests k false ≡ false → allHold (drop k tests) ≡ false
+  ended : get_or tests k false ≡ false → all_hold (drop k tests) ≡ false
   ended fails = rw (drop-cons tests k false inside, fails)
 
-  passed : get_or tests k false ≡ true → allHold (drop k tests) ≡ allHold (drop (k + 1) tests)
+  passed : get_or tests k false ≡ true → all_hold (drop k tests) ≡ all_hold (drop (k + 1) tests)
   passed holds = rw (drop-cons tests k false inside, holds, add-one k)
 
-abbrev invariant-loop : tie.invariant-loop
-invariant-loop tests k₀ k-end k = (k ≤ length tests) × (allHold tests ≡ allHold (drop k tests))
+abbrev invariant_loop : tie.invariant_loop
+invariant_loop tests k₀ k-end k = (k ≤ length tests) × (all_hold tests ≡ all_hold (drop k tests))
 
-abbrev decreases-loop : tie.decreases-loop
-decreases-loop tests k₀ k-end k = length tests - k
+abbrev decreases_loop : tie.decreases_loop
+decreases_loop tests k₀ k-end k = length tests - k
 
-loop-holds : tie.Need-loop-init invariant-loop decreases-loop
-loop-holds c = search rules
+loop_holds : tie.Need-loop-init invariant_loop decreases_loop
+loop_holds c = search rules
 
-shared-slice-read-if1 : tie.Need-shared-slice-read-if1 invariant-loop decreases-loop
-shared-slice-read-if1 c = search rules
+shared_slice_read_if1 : tie.Need-shared-slice-read-if1 invariant_loop decreases_loop
+shared_slice_read_if1 c = search rules
 
-returns : tie.Need-returns invariant-loop decreases-loop
+returns : tie.Need-returns invariant_loop decreases_loop
 returns c =
     let l = c.before.before.before in
     let tests = l.before.args.tests.now in
     sym (l.loop.invariant.1 ∙ ended tests l.loop.k (omega arith) (not-true _ c.if1.true))
 
-add-k : tie.Need-overflow-add-k invariant-loop decreases-loop
-add-k c = search rules
+add_k : tie.Need-overflow-add-k invariant_loop decreases_loop
+add_k c = search rules
 
-loop-less : tie.Need-loop-smaller invariant-loop decreases-loop
-loop-less c = search rules
+loop_less : tie.Need-loop-smaller invariant_loop decreases_loop
+loop_less c = search rules
 
-loop-again : tie.Need-loop-preserved invariant-loop decreases-loop
-loop-again c =
+loop_again : tie.Need-loop-preserved invariant_loop decreases_loop
+loop_again c =
     let l = c.before.before.before in
     let tests = l.before.args.tests.now in
     (omega arith, l.loop.invariant.1 ∙ passed tests l.loop.k (omega arith) (not-false _ c.if1.false))
 
-returns-2 : tie.Need-returns-2 invariant-loop decreases-loop
-returns-2 c =
+returns_2 : tie.Need-returns-2 invariant_loop decreases_loop
+returns_2 c =
     let l = c.before in
     let tests = l.before.args.tests.now in
     let past : length tests ≤ l.loop.k = omega arith in
-    sym (l.loop.invariant.1 ∙ ap allHold (drop_of_length-le tests past))
+    sym (l.loop.invariant.1 ∙ ap all_hold (drop_of_length-le tests past))
 
-pub all-hold-spec : {M : Type 1} → statement M
-all-hold-spec =
+pub all_hold_spec : {M : Type 1} → statement M
+all_hold_spec =
     tie.close
     (tie.spec
-    invariant-loop
-    decreases-loop
-    loop-holds
-    shared-slice-read-if1
+    invariant_loop
+    decreases_loop
+    loop_holds
+    shared_slice_read_if1
     returns
-    add-k
-    loop-less
-    loop-again
-    returns-2)
+    add_k
+    loop_less
+    loop_again
+    returns_2)

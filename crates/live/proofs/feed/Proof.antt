@@ -3,35 +3,35 @@ use mathlib.Core.Path.{◌≡◌, sym, subst}
 use mathlib.Core.Bool.{true}
 use borrow.Author.Rules.{rules}
 use Rattle.table.specs.Opening.{AcceptedTable}
-use Rattle.table.proofs.Answers.{test-passed, test-failed}
+use Rattle.table.proofs.Answers.{test_passed, test_failed}
 use Rattle.bias.specs.Opening.{AcceptedBias}
 use Rattle.window.specs.Ranges.{WindowRange}
 use Rattle.lastscan.specs.Ranges.{LastRange}
 use Rattle.calibrator.specs.declared.Calibrator.{Calibrator}
 use Rattle.calibrator.specs.Feeding.{Feed, step}
-use Rattle.calibrator.specs.Steps.{calibratorWith}
-use Rattle.state.specs.State.{calibratorIn, isState}
-use Rattle.state.proofs.StateLaws.{IsStateSays, is-state-says}
-use Rattle.live.specs.Calls.{leftBy, CallLeaves}
-use Rattle.live.proofs.CallLaws.{no-state-leaves, state-leaves}
+use Rattle.calibrator.specs.Steps.{calibrator_with}
+use Rattle.state.specs.State.{calibrator_in, is_state}
+use Rattle.state.proofs.StateLaws.{IsStateSays, is_state_says}
+use Rattle.live.specs.Calls.{left_by, CallLeaves}
+use Rattle.live.proofs.CallLaws.{no_state_leaves, state_leaves}
 use Rattle.live.proofs.feed.Statement.{statement}
 use Rattle.live.proofs.feed.Tie as tie
 
-abbrev feedOf : tie.Start → Feed
-feedOf start = record { scan = start.args.scan.now; buffer = start.args.buffer.now }
+abbrev feed_of : tie.Start → Feed
+feed_of start = record { scan = start.args.scan.now; buffer = start.args.buffer.now }
 
 -- ---- the bytes are a state
 abbrev start_of : tie.Else1 → tie.Start
 start_of x = x.before.before.before.before.before.before
 
-is_state : (x : tie.Else1) → isState (start_of x).args.state.now ≡ true
-is_state x = test-passed x.before.is_state.ensures x.if1.false
+is_state_lem : (x : tie.Else1) → is_state (start_of x).args.state.now ≡ true
+is_state_lem x = test_passed x.before.is_state_lem.ensures x.if1.false
 
 says : (x : tie.Else1) → IsStateSays (start_of x).args.state.now
-says x = is-state-says (start_of x).args.state.now (λ k. (x.before.before.before.before.before.slice-known.given k).fits) (is_state x)
+says x = is_state_says (start_of x).args.state.now (λ k. (x.before.before.before.before.before.slice-known.given k).fits) (is_state_lem x)
 
-is-state-requires : tie.Need-is-state-requires
-is-state-requires c κs = search rules
+is_state_requires : tie.Need-is-state-requires
+is_state_requires c κs = search rules
 
 same_length : tie.Need-same-length
 same_length c = search rules
@@ -40,30 +40,30 @@ returns : tie.Need-returns
 returns c =
     let test = c.before in
     let start = test.before.before.before.before.before in
-    no-state-leaves start.args.state.now (feedOf start) (test-failed test.is_state.ensures c.if1.true)
+    no_state_leaves start.args.state.now (feed_of start) (test_failed test.is_state_lem.ensures c.if1.true)
 
-table-in-requires : tie.Need-table-in-requires
-table-in-requires c κs = (says c.before).long
+table_in_requires : tie.Need-table-in-requires
+table_in_requires c κs = (says c.before).long
 
-bias-in-requires : tie.Need-bias-in-requires
-bias-in-requires c κs = (says c.before.before.before).long
+bias_in_requires : tie.Need-bias-in-requires
+bias_in_requires c κs = (says c.before.before.before).long
 
-window-in-requires : tie.Need-window-in-requires
-window-in-requires c κs = (says c.before.before.before.before.before).long
+window_in_requires : tie.Need-window-in-requires
+window_in_requires c κs = (says c.before.before.before.before.before).long
 
-last-in-requires : tie.Need-last-in-requires
-last-in-requires c κs =
+last_in_requires : tie.Need-last-in-requires
+last_in_requires c κs =
     let state = says c.before.before.before.before.before.before.before in
     (state.long, state.inside)
 
-slice-aggregate-feed-read : tie.Need-slice-aggregate-feed-read
-slice-aggregate-feed-read c = search rules
+slice_aggregate_feed_read : tie.Need-slice-aggregate-feed-read
+slice_aggregate_feed_read c = search rules
 
-slice-aggregate-feed-read-2 : tie.Need-slice-aggregate-feed-read-2
-slice-aggregate-feed-read-2 c = search rules
+slice_aggregate_feed_read_2 : tie.Need-slice-aggregate-feed-read-2
+slice_aggregate_feed_read_2 c = search rules
 
-feed-read-requires : tie.Need-feed-read-requires
-feed-read-requires c κs =
+feed_read_requires : tie.Need-feed-read-requires
+feed_read_requires c κs =
     let last = c.before.before.before.before in
     let window = last.before.before in
     let bias = window.before.before in
@@ -77,14 +77,14 @@ feed-read-requires c κs =
       state.long,
     )
 
-same-length-2 : tie.Need-same-length-2
-same-length-2 c = search rules
+same_length_2 : tie.Need-same-length-2
+same_length_2 c = search rules
 
-same-length-3 : tie.Need-same-length-3
-same-length-3 c = search rules
+same_length_3 : tie.Need-same-length-3
+same_length_3 c = search rules
 
-returns-2 : tie.Need-returns-2
-returns-2 c =
+returns_2 : tie.Need-returns-2
+returns_2 c =
     let fed = c.before.before.before.before in
     let last = fed.before.before.before.before.before in
     let window = last.before.before in
@@ -93,25 +93,25 @@ returns-2 c =
     let test = table.before.before in
     let start = start_of test in
     let state = start.args.state.now in
-    let read_back : calibratorWith table.table-in.result bias.bias-in.result window.window-in.result last.last-in.result ≡ calibratorIn state =
+    let read_back : calibrator_with table.table-in.result bias.bias-in.result window.window-in.result last.last-in.result ≡ calibrator_in state =
     rw (table.table-in.ensures, bias.bias-in.ensures, window.window-in.ensures, last.last-in.ensures) in
-    state-leaves state (feedOf start) (is_state test)
-    (subst (λ (d : Calibrator). CallLeaves (leftBy state (step d (feedOf start))) fed.feed-read.result fed.feed-read.new.1.1.1.1.0 fed.feed-read.new.1.1.1.1.1.1.0) read_back fed.feed-read.ensures)
+    state_leaves state (feed_of start) (is_state_lem test)
+    (subst (λ (d : Calibrator). CallLeaves (left_by state (step d (feed_of start))) fed.feed-read.result fed.feed-read.new.1.1.1.1.0 fed.feed-read.new.1.1.1.1.1.1.0) read_back fed.feed-read.ensures)
 
-pub feed-spec : {M : Type 1} → statement M
-feed-spec =
+pub feed_spec : {M : Type 1} → statement M
+feed_spec =
     tie.close
     (tie.spec
-    is-state-requires
+    is_state_requires
     same_length
     returns
-    table-in-requires
-    bias-in-requires
-    window-in-requires
-    last-in-requires
-    slice-aggregate-feed-read
-    slice-aggregate-feed-read-2
-    feed-read-requires
-    same-length-2
-    same-length-3
-    returns-2)
+    table_in_requires
+    bias_in_requires
+    window_in_requires
+    last_in_requires
+    slice_aggregate_feed_read
+    slice_aggregate_feed_read_2
+    feed_read_requires
+    same_length_2
+    same_length_3
+    returns_2)

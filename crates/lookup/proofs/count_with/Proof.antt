@@ -7,10 +7,10 @@ use lib.Signed.{clash_ℤ}
 use mir.Syntax.{w64}
 use mir.Val.{to_z, of_z}
 use borrow.Author.Rules.{rules}
-use Rattle.integers.proofs.Order.{ltZ-true, ltZ-false, at-most-antisym, at-most-equal}
-use Rattle.integers.proofs.Machine.{result-reads-back, natural-reads-back}
+use Rattle.integers.proofs.Order.{lt_z_true, lt_z_false, at_most_antisym, at_most_equal}
+use Rattle.integers.proofs.Machine.{result_reads_back, natural_reads_back}
 use Rattle.scene.specs.Steps.{placed}
-use Rattle.lookup.proofs.FitLaws.{candidate-found, candidate-fails}
+use Rattle.lookup.proofs.FitLaws.{candidate_found, candidate_fails}
 use Rattle.lookup.proofs.count_with.Statement.{statement}
 use Rattle.lookup.proofs.count_with.Tie as tie
 
@@ -21,57 +21,57 @@ module _ (c : tie.After-placed-units) where
   abbrev candidate : ℕ
   candidate = c.before.only-candidate.result
 
-  reads-placed : to_z w64 (of_z w64 c.placed-units.result) ≡ placed start.args.k candidate
-  reads-placed = result-reads-back c.placed-units.result c.placed-units.type-inv ∙ c.placed-units.ensures
+  reads_placed : to_z w64 (of_z w64 c.placed-units.result) ≡ placed start.args.k candidate
+  reads_placed = result_reads_back c.placed-units.result c.placed-units.type-inv ∙ c.placed-units.ensures
 
-  reads-wanted : to_z w64 start.args.wanted ≡ pos start.args.wanted
-  reads-wanted = natural-reads-back start.args.wanted (omega arith)
+  reads_wanted : to_z w64 start.args.wanted ≡ pos start.args.wanted
+  reads_wanted = natural_reads_back start.args.wanted (omega arith)
 
-scale-of-requires : tie.Need-scale-of-requires
-scale-of-requires c κs = search rules
+scale_of_requires : tie.Need-scale-of-requires
+scale_of_requires c κs = search rules
 
-only-candidate-requires : tie.Need-only-candidate-requires
-only-candidate-requires c κs = search rules
+only_candidate_requires : tie.Need-only-candidate-requires
+only_candidate_requires c κs = search rules
 
-placed-units-requires : tie.Need-placed-units-requires
-placed-units-requires c κs = search rules
+placed_units_requires : tie.Need-placed-units-requires
+placed_units_requires c κs = search rules
 
-cast-if1 : tie.Need-overflow-cast-if1
-cast-if1 c = search rules
+cast_if1 : tie.Need-overflow-cast-if1
+cast_if1 c = search rules
 
 returns : tie.Need-returns
 returns c =
     let p = c.before in
     let s = start p in
-    candidate-fails s.pre s.args.wanted (candidate p) p.before.only-candidate.ensures
-    (λ same. clash_ℤ (ltZ-true (rw (reads-placed p, reads-wanted p) at c.if1.true)) (at-most-equal (sym same)))
+    candidate_fails s.pre s.args.wanted (candidate p) p.before.only-candidate.ensures
+    (λ same. clash_ℤ (lt_z_true (rw (reads_placed p, reads_wanted p) at c.if1.true)) (at_most_equal (sym same)))
 
-cast-if2 : tie.Need-overflow-cast-if2
-cast-if2 c = search rules
+cast_if2 : tie.Need-overflow-cast-if2
+cast_if2 c = search rules
 
-returns-2 : tie.Need-returns-2
-returns-2 c =
+returns_2 : tie.Need-returns-2
+returns_2 c =
     let p = c.before.before in
     let s = start p in
-    candidate-fails s.pre s.args.wanted (candidate p) p.before.only-candidate.ensures
-    (λ same. clash_ℤ (ltZ-true (rw (reads-placed p, reads-wanted p) at c.if2.true)) (at-most-equal same))
+    candidate_fails s.pre s.args.wanted (candidate p) p.before.only-candidate.ensures
+    (λ same. clash_ℤ (lt_z_true (rw (reads_placed p, reads_wanted p) at c.if2.true)) (at_most_equal same))
 
-returns-3 : tie.Need-returns-3
-returns-3 c =
+returns_3 : tie.Need-returns-3
+returns_3 c =
     let p = c.before.before in
     let s = start p in
-    candidate-found s.pre s.args.wanted (candidate p) p.before.only-candidate.ensures (omega arith) (omega arith)
-    (at-most-antisym (ltZ-false (rw (reads-placed p, reads-wanted p) at c.if2.false)) (ltZ-false (rw (reads-placed p, reads-wanted p) at c.before.if1.false)))
+    candidate_found s.pre s.args.wanted (candidate p) p.before.only-candidate.ensures (omega arith) (omega arith)
+    (at_most_antisym (lt_z_false (rw (reads_placed p, reads_wanted p) at c.if2.false)) (lt_z_false (rw (reads_placed p, reads_wanted p) at c.before.if1.false)))
 
-pub count-with-spec : {M : Type 1} → statement M
-count-with-spec =
+pub count_with_spec : {M : Type 1} → statement M
+count_with_spec =
     tie.close
     (tie.spec
-    scale-of-requires
-    only-candidate-requires
-    placed-units-requires
-    cast-if1
+    scale_of_requires
+    only_candidate_requires
+    placed_units_requires
+    cast_if1
     returns
-    cast-if2
-    returns-2
-    returns-3)
+    cast_if2
+    returns_2
+    returns_3)

@@ -5,8 +5,8 @@ use Rattle.product.proofs.greater_of.Tie as tie
 returns : tie.Need-returns
 returns c = simp c.if1.true
 
-returns-2 : tie.Need-returns-2
-returns-2 c = simp c.if1.false
+returns_2 : tie.Need-returns-2
+returns_2 c = simp c.if1.false
 
-pub greater-of-spec : {M : Type 1} → statement M
-greater-of-spec = tie.close (tie.spec returns returns-2)
+pub greater_of_spec : {M : Type 1} → statement M
+greater_of_spec = tie.close (tie.spec returns returns_2)

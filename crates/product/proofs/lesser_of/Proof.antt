@@ -5,8 +5,8 @@ use Rattle.product.proofs.lesser_of.Tie as tie
 returns : tie.Need-returns
 returns c = simp c.if1.true
 
-returns-2 : tie.Need-returns-2
-returns-2 c = simp c.if1.false
+returns_2 : tie.Need-returns-2
+returns_2 c = simp c.if1.false
 
-pub lesser-of-spec : {M : Type 1} → statement M
-lesser-of-spec = tie.close (tie.spec returns returns-2)
+pub lesser_of_spec : {M : Type 1} → statement M
+lesser_of_spec = tie.close (tie.spec returns returns_2)

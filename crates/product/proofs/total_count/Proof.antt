@@ -5,74 +5,74 @@ use mathlib.Core.Path.{◌≡◌, sym, ap, ◌∙◌}
 use mathlib.Core.List.{List}
 use lib.ListN.{get_or}
 use Rattle.lists.specs.Sum.{sum}
-use Rattle.lists.proofs.Sum.{sum-none, sum_more}
+use Rattle.lists.proofs.Sum.{sum_none, sum_more}
 use Rattle.instrument.specs.Instrument.{channels}
 use Rattle.product.specs.declared.Summary.{Summary}
-use Rattle.product.specs.Summary.{noneDelivered}
-use Rattle.product.proofs.PastSummaries.{summary-of}
+use Rattle.product.specs.Summary.{none_delivered}
+use Rattle.product.proofs.PastSummaries.{summary_of}
 use borrow.Author.Rules.{rules}
 use Rattle.product.proofs.total_count.Statement.{statement}
 use Rattle.product.proofs.total_count.Tie as tie
 
-abbrev countAt : List Summary → ℕ → ℕ
-countAt all c = (get_or all c noneDelivered).count
+abbrev count_at : List Summary → ℕ → ℕ
+count_at all c = (get_or all c none_delivered).count
 
-abbrev invariant-loop : tie.invariant-loop
-invariant-loop all n₀ c₀ n c = (c ≤ channels) × (n ≡ sum (countAt all) c) × (n ≤ 65535 * c)
+abbrev invariant_loop : tie.invariant_loop
+invariant_loop all n₀ c₀ n c = (c ≤ channels) × (n ≡ sum (count_at all) c) × (n ≤ 65535 * c)
 
-abbrev decreases-loop : tie.decreases-loop
-decreases-loop all n₀ c₀ n c = channels - c
+abbrev decreases_loop : tie.decreases_loop
+decreases_loop all n₀ c₀ n c = channels - c
 
-loop-holds : tie.Need-loop-init invariant-loop decreases-loop
-loop-holds c = (search rules, sym (sum-none (countAt c.args.t1)), search rules)
+loop_holds : tie.Need-loop-init invariant_loop decreases_loop
+loop_holds c = (search rules, sym (sum_none (count_at c.args.t1)), search rules)
 
-mul-s : tie.Need-overflow-mul-s invariant-loop decreases-loop
-mul-s c = omega arith
+mul_s : tie.Need-overflow-mul-s invariant_loop decreases_loop
+mul_s c = omega arith
 
-array-copy-out-s : tie.Need-array-copy-out-s invariant-loop decreases-loop
-array-copy-out-s c = search rules
+array_copy_out_s : tie.Need-array-copy-out-s invariant_loop decreases_loop
+array_copy_out_s c = search rules
 
-cast-n : tie.Need-overflow-cast-n invariant-loop decreases-loop
-cast-n c = search rules
+cast_n : tie.Need-overflow-cast-n invariant_loop decreases_loop
+cast_n c = search rules
 
-add-n : tie.Need-overflow-add-n invariant-loop decreases-loop
-add-n c = search rules
+add_n : tie.Need-overflow-add-n invariant_loop decreases_loop
+add_n c = search rules
 
-add-c : tie.Need-overflow-add-c invariant-loop decreases-loop
-add-c c = omega arith
+add_c : tie.Need-overflow-add-c invariant_loop decreases_loop
+add_c c = omega arith
 
-loop-less : tie.Need-loop-smaller invariant-loop decreases-loop
-loop-less c = omega arith
+loop_less : tie.Need-loop-smaller invariant_loop decreases_loop
+loop_less c = omega arith
 
-loop-again : tie.Need-loop-preserved invariant-loop decreases-loop
-loop-again c =
+loop_again : tie.Need-loop-preserved invariant_loop decreases_loop
+loop_again c =
     let l = c.before.before.before in
-    let counts = countAt l.before.args.t1 in (
+    let counts = count_at l.before.args.t1 in (
       omega arith,
-      ap (λ (s : Summary). l.loop.n + s.count) (summary-of l.before.args.t1 l.loop.c (search rules))
+      ap (λ (s : Summary). l.loop.n + s.count) (summary_of l.before.args.t1 l.loop.c (search rules))
           ∙ ap (λ (n : ℕ). n + counts l.loop.c) l.loop.invariant.1
           ∙ sym (sum_more counts l.loop.c),
       omega arith,
     )
 
-returns : tie.Need-returns invariant-loop decreases-loop
+returns : tie.Need-returns invariant_loop decreases_loop
 returns c =
     let l = c.before in
     let last : l.loop.c ≡ channels = omega arith in
-    l.loop.invariant.1 ∙ ap (sum (countAt l.before.args.t1)) last
+    l.loop.invariant.1 ∙ ap (sum (count_at l.before.args.t1)) last
 
-pub total-count-spec : {M : Type 1} → statement M
-total-count-spec =
+pub total_count_spec : {M : Type 1} → statement M
+total_count_spec =
     tie.close
     (tie.spec
-    invariant-loop
-    decreases-loop
-    loop-holds
-    mul-s
-    array-copy-out-s
-    cast-n
-    add-n
-    add-c
-    loop-less
-    loop-again
+    invariant_loop
+    decreases_loop
+    loop_holds
+    mul_s
+    array_copy_out_s
+    cast_n
+    add_n
+    add_c
+    loop_less
+    loop_again
     returns)

@@ -9,180 +9,180 @@ use lib.Dec.{T}
 use lib.ListN.{length}
 use lib.Ieee.{is_nan}
 use Rattle.lists.specs.Build.{filled}
-use Rattle.lists.proofs.Cells.{filled_none, filled-by-put, filled-to-end}
+use Rattle.lists.proofs.Cells.{filled_none, filled-by-put, filled_to_end}
 use Rattle.instrument.specs.Instrument.{positions}
 use Rattle.scene.specs.declared.Scene.{Scene}
 use Rattle.scene.specs.Scene.{value, bits}
 use Rattle.scene.specs.declared.Channel.{Channel}
 use Rattle.product.specs.declared.Summary.{Summary}
-use Rattle.product.specs.Scenes.{sceneIn, scene_at}
-use Rattle.product.specs.Steps.{withPairs}
-use Rattle.product.specs.Summary.{withScene, summaryTo}
-use Rattle.fields.specs.Numbers.{u32Bytes}
-use Rattle.product.specs.Product.{stretchSize, channelScenes}
-use Rattle.product.proofs.SceneLaws.{scene-in-not-nan}
-use Rattle.product.proofs.SummaryLaws.{summary-to-none, summary-to-more, count-at-most}
+use Rattle.product.specs.Scenes.{scene_in, scene_at}
+use Rattle.product.specs.Steps.{with_pairs}
+use Rattle.product.specs.Summary.{with_scene, summary_to}
+use Rattle.fields.specs.Numbers.{u32_bytes}
+use Rattle.product.specs.Product.{stretch_size, channel_scenes}
+use Rattle.product.proofs.SceneLaws.{scene_in_not_nan}
+use Rattle.product.proofs.SummaryLaws.{summary_to_none, summary_to_more, count_at_most}
 use borrow.Author.Rules.{rules}
 use Rattle.product.proofs.write_channel.Statement.{statement}
 use Rattle.product.proofs.write_channel.Tie as tie
 
 module _ (channel : Channel) (pairs part : List ℕ) where
-  abbrev scenesIn : ℕ → Scene
-  scenesIn = scene_at (withPairs pairs) channel part
+  abbrev scenes_in : ℕ → Scene
+  scenes_in = scene_at (with_pairs pairs) channel part
 
   abbrev bytes_at : ℕ → List ℕ
-  bytes_at i = u32Bytes (bits (scenesIn i))
+  bytes_at i = u32_bytes (bits (scenes_in i))
 
-abbrev invariant-loop : tie.invariant-loop
-invariant-loop out₀ channel pairs part scale summary₀ i₀ out summary i =
+abbrev invariant_loop : tie.invariant_loop
+invariant_loop out₀ channel pairs part scale summary₀ i₀ out summary i =
     (i ≤ positions)
-    × (length out ≡ stretchSize)
-    × (summary ≡ summaryTo (scenesIn channel pairs part) i)
+    × (length out ≡ stretch_size)
+    × (summary ≡ summary_to (scenes_in channel pairs part) i)
     × (out ≡ filled (bytes_at channel pairs part) 4 i out₀)
 
-abbrev decreases-loop : tie.decreases-loop
-decreases-loop out₀ channel pairs part scale summary₀ i₀ out summary i = positions - i
+abbrev decreases_loop : tie.decreases_loop
+decreases_loop out₀ channel pairs part scale summary₀ i₀ out summary i = positions - i
 
-scale-in-requires : tie.Need-scale-in-requires invariant-loop decreases-loop
-scale-in-requires c κs = search rules
+scale_in_requires : tie.Need-scale-in-requires invariant_loop decreases_loop
+scale_in_requires c κs = search rules
 
-none-requires : tie.Need-none-requires invariant-loop decreases-loop
-none-requires c κs = tt
+none_requires : tie.Need-none-requires invariant_loop decreases_loop
+none_requires c κs = tt
 
-loop-holds : tie.Need-loop-init invariant-loop decreases-loop
-loop-holds c =
+loop_holds : tie.Need-loop-init invariant_loop decreases_loop
+loop_holds c =
     let a = c.before.before.before.before.before.args in (
       search rules,
       search rules,
-      c.none.ensures ∙ sym (summary-to-none (scenesIn a.channel a.pairs.now a.part.now)),
+      c.none.ensures ∙ sym (summary_to_none (scenes_in a.channel a.pairs.now a.part.now)),
       filled_none (bytes_at a.channel a.pairs.now a.part.now) 4 a.out.now,
     )
 
-mul-factor : tie.Need-overflow-mul-factor invariant-loop decreases-loop
-mul-factor c = omega arith
+mul_factor : tie.Need-overflow-mul-factor invariant_loop decreases_loop
+mul_factor c = omega arith
 
-mul-factor-2 : tie.Need-overflow-mul-factor-2 invariant-loop decreases-loop
-mul-factor-2 c = omega arith
+mul_factor_2 : tie.Need-overflow-mul-factor-2 invariant_loop decreases_loop
+mul_factor_2 c = omega arith
 
-shared-slice-read-factor : tie.Need-shared-slice-read-factor invariant-loop decreases-loop
-shared-slice-read-factor c = search rules
+shared_slice_read_factor : tie.Need-shared-slice-read-factor invariant_loop decreases_loop
+shared_slice_read_factor c = search rules
 
-mul-offset : tie.Need-overflow-mul-offset invariant-loop decreases-loop
-mul-offset c = omega arith
+mul_offset : tie.Need-overflow-mul-offset invariant_loop decreases_loop
+mul_offset c = omega arith
 
-add-offset : tie.Need-overflow-add-offset invariant-loop decreases-loop
-add-offset c = omega arith
+add_offset : tie.Need-overflow-add-offset invariant_loop decreases_loop
+add_offset c = omega arith
 
-mul-offset-2 : tie.Need-overflow-mul-offset-2 invariant-loop decreases-loop
-mul-offset-2 c = omega arith
+mul_offset_2 : tie.Need-overflow-mul-offset-2 invariant_loop decreases_loop
+mul_offset_2 c = omega arith
 
-shared-slice-read-offset : tie.Need-shared-slice-read-offset invariant-loop decreases-loop
-shared-slice-read-offset c = search rules
+shared_slice_read_offset : tie.Need-shared-slice-read-offset invariant_loop decreases_loop
+shared_slice_read_offset c = search rules
 
-mul-u16-at : tie.Need-overflow-mul-u16-at invariant-loop decreases-loop
-mul-u16-at c = omega arith
+mul_u16_at : tie.Need-overflow-mul-u16-at invariant_loop decreases_loop
+mul_u16_at c = omega arith
 
-u16-at-requires : tie.Need-u16-at-requires invariant-loop decreases-loop
-u16-at-requires c κs = search rules
+u16_at_requires : tie.Need-u16-at-requires invariant_loop decreases_loop
+u16_at_requires c κs = search rules
 
-scene-in-requires : tie.Need-scene-in-requires invariant-loop decreases-loop
-scene-in-requires c κs =
+scene_in_requires : tie.Need-scene-in-requires invariant_loop decreases_loop
+scene_in_requires c κs =
     let s = c.before.before.before.before.before.before.before.before.before.before in
     let i = c.before.before.before.before.loop.i in
     let inside = c.before.before.before.loop-test.true in
     (s.requires.0.2, c.before.before.before.before.before.before.scale_in.ensures, s.requires.1.1 i inside)
 
-mul-put-u32 : tie.Need-overflow-mul-put-u32 invariant-loop decreases-loop
-mul-put-u32 c = omega arith
+mul_put_u32 : tie.Need-overflow-mul-put-u32 invariant_loop decreases_loop
+mul_put_u32 c = omega arith
 
 -- the scene that is written is that of the position
-scene-is : (c : tie.After-scene-in invariant-loop decreases-loop) → let a = c.before.before.before.before.before.before.before.before.before.before.before.args in c.scene-in.result ≡ scenesIn a.channel a.pairs.now a.part.now c.before.before.before.before.before.loop.i
-scene-is c =
+scene_is : (c : tie.After-scene-in invariant_loop decreases_loop) → let a = c.before.before.before.before.before.before.before.before.before.before.before.args in c.scene-in.result ≡ scenes_in a.channel a.pairs.now a.part.now c.before.before.before.before.before.loop.i
+scene_is c =
     let a = c.before.before.before.before.before.before.before.before.before.before.before.args in
-    c.scene-in.ensures ∙ ap (sceneIn (withPairs a.pairs.now c.before.before.before.before.before.loop.i) a.channel) c.before.u16-at.ensures
+    c.scene-in.ensures ∙ ap (scene_in (with_pairs a.pairs.now c.before.before.before.before.before.loop.i) a.channel) c.before.u16-at.ensures
 
-bits-of-requires : tie.Need-bits-of-requires invariant-loop decreases-loop
-bits-of-requires c κs =
+bits_of_requires : tie.Need-bits-of-requires invariant_loop decreases_loop
+bits_of_requires c κs =
     let s = c.before.before in
-    subst (λ (x : Scene). T (not (is_nan (value x)))) (sym (scene-is s)) (scene-in-not-nan _ _ _)
+    subst (λ (x : Scene). T (not (is_nan (value x)))) (sym (scene_is s)) (scene_in_not_nan _ _ _)
 
-put-u32-requires : tie.Need-put-u32-requires invariant-loop decreases-loop
-put-u32-requires c κs = search rules
+put_u32_requires : tie.Need-put-u32-requires invariant_loop decreases_loop
+put_u32_requires c κs = search rules
 
-with-scene-requires : tie.Need-with-scene-requires invariant-loop decreases-loop
-with-scene-requires c κs =
+with_scene_requires : tie.Need-with-scene-requires invariant_loop decreases_loop
+with_scene_requires c κs =
     let l = c.before.before.before.before.before in
     let a = c.before.before.before.before.before.before.before.before.before.before.before.args in
-    let small : l.loop.summary.count ≤ l.loop.i = rw l.loop.invariant.2 (count-at-most (scenesIn a.channel a.pairs.now a.part.now) l.loop.i) in
+    let small : l.loop.summary.count ≤ l.loop.i = rw l.loop.invariant.2 (count_at_most (scenes_in a.channel a.pairs.now a.part.now) l.loop.i) in
     omega (arith, l)
 
-add-i : tie.Need-overflow-add-i invariant-loop decreases-loop
-add-i c = omega arith
+add_i : tie.Need-overflow-add-i invariant_loop decreases_loop
+add_i c = omega arith
 
-loop-less : tie.Need-loop-smaller invariant-loop decreases-loop
-loop-less c = omega arith
+loop_less : tie.Need-loop-smaller invariant_loop decreases_loop
+loop_less c = omega arith
 
-loop-again : tie.Need-loop-preserved invariant-loop decreases-loop
-loop-again c =
+loop_again : tie.Need-loop-preserved invariant_loop decreases_loop
+loop_again c =
     let w = c.before.before in
     let t = w.before.before.before in
     let s = t.before in
     let l = s.before.before.before.before.before in
     let a = s.before.before.before.before.before.before.before.before.before.before.before.args in
-    let scenes = scenesIn a.channel a.pairs.now a.part.now in
+    let scenes = scenes_in a.channel a.pairs.now a.part.now in
     let bytes = bytes_at a.channel a.pairs.now a.part.now in
     let i = l.loop.i in
-    let in-bits = w.before.bits_of.ensures ∙ ap bits (scene-is s) in (
+    let in-bits = w.before.bits_of.ensures ∙ ap bits (scene_is s) in (
       omega arith,
       w.put-u32.auto.0 ∙ l.loop.invariant.1,
       t.with-scene.ensures
-          ∙ ap (withScene l.loop.summary) (scene-is s)
-          ∙ ap (λ (s : Summary). withScene s (scenes i)) l.loop.invariant.2
-          ∙ sym (summary-to-more scenes i),
-      filled-by-put bytes 4 (λ _. refl) a.out.now i l.loop.invariant.3 (ap u32Bytes in-bits) w.put-u32.ensures,
+          ∙ ap (with_scene l.loop.summary) (scene_is s)
+          ∙ ap (λ (s : Summary). with_scene s (scenes i)) l.loop.invariant.2
+          ∙ sym (summary_to_more scenes i),
+      filled-by-put bytes 4 (λ _. refl) a.out.now i l.loop.invariant.3 (ap u32_bytes in-bits) w.put-u32.ensures,
     )
 
-same_length : tie.Need-same-length invariant-loop decreases-loop
+same_length : tie.Need-same-length invariant_loop decreases_loop
 same_length c = search rules
 
-returns : tie.Need-returns invariant-loop decreases-loop
-unfolding channelScenes
+returns : tie.Need-returns invariant_loop decreases_loop
+unfolding channel_scenes
 returns c =
     let l = c.before in
     let s = c.before.before.before.before.before.before.before in
     let a = s.args in
-    let scenes = scenesIn a.channel a.pairs.now a.part.now in
+    let scenes = scenes_in a.channel a.pairs.now a.part.now in
     let bytes = bytes_at a.channel a.pairs.now a.part.now in
     let last : l.loop.i ≡ positions = omega arith in (
-      l.loop.invariant.2 ∙ ap (summaryTo scenes) last,
-      filled-to-end bytes 4 positions a.out.now last s.requires.0.0 l.loop.invariant.3,
+      l.loop.invariant.2 ∙ ap (summary_to scenes) last,
+      filled_to_end bytes 4 positions a.out.now last s.requires.0.0 l.loop.invariant.3,
     )
 
-pub write-channel-spec : {M : Type 1} → statement M
-write-channel-spec =
+pub write_channel_spec : {M : Type 1} → statement M
+write_channel_spec =
     tie.close
     (tie.spec
-    invariant-loop
-    decreases-loop
-    scale-in-requires
-    none-requires
-    loop-holds
-    mul-factor
-    mul-factor-2
-    shared-slice-read-factor
-    mul-offset
-    add-offset
-    mul-offset-2
-    shared-slice-read-offset
-    mul-u16-at
-    u16-at-requires
-    scene-in-requires
-    with-scene-requires
-    mul-put-u32
-    bits-of-requires
-    put-u32-requires
-    add-i
-    loop-less
-    loop-again
+    invariant_loop
+    decreases_loop
+    scale_in_requires
+    none_requires
+    loop_holds
+    mul_factor
+    mul_factor_2
+    shared_slice_read_factor
+    mul_offset
+    add_offset
+    mul_offset_2
+    shared_slice_read_offset
+    mul_u16_at
+    u16_at_requires
+    scene_in_requires
+    with_scene_requires
+    mul_put_u32
+    bits_of_requires
+    put_u32_requires
+    add_i
+    loop_less
+    loop_again
     same_length
     returns)

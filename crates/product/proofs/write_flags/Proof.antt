@@ -5,73 +5,73 @@ use mathlib.Core.Path.{◌≡◌, refl}
 use mathlib.Core.List.{List, ◌++◌}
 use lib.ListN.{length, get_or, drop, length-set}
 use Rattle.lists.specs.Build.{tabulate}
-use Rattle.lists.proofs.Tabulate.{tabulated-none, filled-by-store, tabulated-to-end}
+use Rattle.lists.proofs.Tabulate.{tabulated_none, filled_by_store, tabulated_to_end}
 use Rattle.instrument.specs.Instrument.{channels}
 use Rattle.scene.specs.declared.Channel.{Channel}
-use Rattle.product.specs.Scenes.{noChannel}
-use Rattle.product.specs.Product.{flagBytes}
+use Rattle.product.specs.Scenes.{no_channel}
+use Rattle.product.specs.Product.{flag_bytes}
 use borrow.Author.Rules.{rules}
 use Rattle.product.proofs.write_flags.Statement.{statement}
 use Rattle.product.proofs.write_flags.Tie as tie
 
-abbrev flagAt : List Channel → ℕ → ℕ
-flagAt states c = (get_or states c noChannel).flag
+abbrev flag_at : List Channel → ℕ → ℕ
+flag_at states c = (get_or states c no_channel).flag
 
-abbrev invariant-loop : tie.invariant-loop
-invariant-loop out₀ states c₀ out c = (c ≤ channels) × (length out ≡ channels) × (out ≡ tabulate (flagAt states) c ++ drop c out₀)
+abbrev invariant_loop : tie.invariant_loop
+invariant_loop out₀ states c₀ out c = (c ≤ channels) × (length out ≡ channels) × (out ≡ tabulate (flag_at states) c ++ drop c out₀)
 
-abbrev decreases-loop : tie.decreases-loop
-decreases-loop out₀ states c₀ out c = channels - c
+abbrev decreases_loop : tie.decreases_loop
+decreases_loop out₀ states c₀ out c = channels - c
 
-loop-holds : tie.Need-loop-init invariant-loop decreases-loop
-loop-holds c = (search rules, search rules, tabulated-none (flagAt c.args.t2) c.args.out.now)
+loop_holds : tie.Need-loop-init invariant_loop decreases_loop
+loop_holds c = (search rules, search rules, tabulated_none (flag_at c.args.t2) c.args.out.now)
 
-mul-channel : tie.Need-overflow-mul-channel invariant-loop decreases-loop
-mul-channel c = omega arith
+mul_channel : tie.Need-overflow-mul-channel invariant_loop decreases_loop
+mul_channel c = omega arith
 
-array-copy-out-channel : tie.Need-array-copy-out-channel invariant-loop decreases-loop
-array-copy-out-channel c = search rules
+array_copy_out_channel : tie.Need-array-copy-out-channel invariant_loop decreases_loop
+array_copy_out_channel c = search rules
 
-slice-write-out : tie.Need-slice-write-out invariant-loop decreases-loop
-slice-write-out c = search rules
+slice_write_out : tie.Need-slice-write-out invariant_loop decreases_loop
+slice_write_out c = search rules
 
-add-c : tie.Need-overflow-add-c invariant-loop decreases-loop
-add-c c = omega arith
+add_c : tie.Need-overflow-add-c invariant_loop decreases_loop
+add_c c = omega arith
 
-loop-less : tie.Need-loop-smaller invariant-loop decreases-loop
-loop-less c = omega arith
+loop_less : tie.Need-loop-smaller invariant_loop decreases_loop
+loop_less c = omega arith
 
-loop-again : tie.Need-loop-preserved invariant-loop decreases-loop
-loop-again c =
+loop_again : tie.Need-loop-preserved invariant_loop decreases_loop
+loop_again c =
     let l = c.before.before in
     let a = l.before.args in (
       omega arith,
       simp length-set l.loop.invariant.1,
-      filled-by-store (flagAt a.t2) a.out.now l.loop.c (omega arith) l.loop.invariant.2 refl,
+      filled_by_store (flag_at a.t2) a.out.now l.loop.c (omega arith) l.loop.invariant.2 refl,
     )
 
-same_length : tie.Need-same-length invariant-loop decreases-loop
+same_length : tie.Need-same-length invariant_loop decreases_loop
 same_length c = search rules
 
-returns : tie.Need-returns invariant-loop decreases-loop
-unfolding flagBytes
+returns : tie.Need-returns invariant_loop decreases_loop
+unfolding flag_bytes
 returns c =
     let l = c.before in
     let a = l.before.args in
-    tabulated-to-end (flagAt a.t2) channels a.out.now (omega arith) (omega arith) l.loop.invariant.2
+    tabulated_to_end (flag_at a.t2) channels a.out.now (omega arith) (omega arith) l.loop.invariant.2
 
-pub write-flags-spec : {M : Type 1} → statement M
-write-flags-spec =
+pub write_flags_spec : {M : Type 1} → statement M
+write_flags_spec =
     tie.close
     (tie.spec
-    invariant-loop
-    decreases-loop
-    loop-holds
-    mul-channel
-    array-copy-out-channel
-    slice-write-out
-    add-c
-    loop-less
-    loop-again
+    invariant_loop
+    decreases_loop
+    loop_holds
+    mul_channel
+    array_copy_out_channel
+    slice_write_out
+    add_c
+    loop_less
+    loop_again
     same_length
     returns)

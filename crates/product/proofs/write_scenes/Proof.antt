@@ -11,144 +11,144 @@ use lib.ListN.{length, get_or, replicate, take, drop, length-set}
 use mir.Facts.{Fits-below}
 use borrow.Author.Count.{falls}
 use Rattle.lists.specs.Build.{tabulate, filled}
-use Rattle.lists.proofs.Tabulate.{tabulated-none, filled-by-store, tabulated-to-end}
-use Rattle.lists.proofs.Put.{part-is-take, length_part, lent-part-is-put}
-use Rattle.lists.proofs.Cells.{cell-inside, filled_none, filled-by-put, filled-to-end}
+use Rattle.lists.proofs.Tabulate.{tabulated_none, filled_by_store, tabulated_to_end}
+use Rattle.lists.proofs.Put.{part_is_take, length_part, lent_part_is_put}
+use Rattle.lists.proofs.Cells.{cell_inside, filled_none, filled-by-put, filled_to_end}
 use Rattle.instrument.specs.Instrument.{channels}
-use Rattle.record.specs.Record.{earthSize, earthPart}
+use Rattle.record.specs.Record.{earth_size, earth_part}
 use Rattle.scene.specs.declared.Channel.{Channel}
 use Rattle.product.specs.declared.Summary.{Summary}
-use Rattle.product.specs.Scenes.{noChannel}
-use Rattle.product.specs.Steps.{withPairs, pairsSize, byPairs, PairsRange}
-use Rattle.product.specs.Summary.{summaryOf}
-use Rattle.product.specs.Product.{stretchSize, channelScenes, sceneBytes, summaries}
-use Rattle.product.proofs.Lengths.{length-channel-scenes}
+use Rattle.product.specs.Scenes.{no_channel}
+use Rattle.product.specs.Steps.{with_pairs, pairs_size, by_pairs, PairsRange}
+use Rattle.product.specs.Summary.{summary_of}
+use Rattle.product.specs.Product.{stretch_size, channel_scenes, scene_bytes, summaries}
+use Rattle.product.proofs.Lengths.{length_channel_scenes}
 use borrow.Author.Rules.{rules}
 use Rattle.product.proofs.write_scenes.Statement.{statement}
 use Rattle.product.proofs.write_scenes.Tie as tie
 
 module _ (states : List Channel) (pairs earth : List ℕ) (c : ℕ) where
-  abbrev summaryAt : Summary
-  summaryAt = summaryOf (byPairs pairs c) (get_or states c noChannel) (earthPart earth c)
+  abbrev summary_at : Summary
+  summary_at = summary_of (by_pairs pairs c) (get_or states c no_channel) (earth_part earth c)
 
   abbrev bytes_at : List ℕ
-  bytes_at = channelScenes (byPairs pairs c) (get_or states c noChannel) (earthPart earth c)
+  bytes_at = channel_scenes (by_pairs pairs c) (get_or states c no_channel) (earth_part earth c)
 
-abbrev invariant-loop : tie.invariant-loop
-invariant-loop out₀ pairs earth states all₀ c₀ out all c =
+abbrev invariant_loop : tie.invariant_loop
+invariant_loop out₀ pairs earth states all₀ c₀ out all c =
     (c ≤ channels)
-    × (length out ≡ stretchSize * channels)
+    × (length out ≡ stretch_size * channels)
     × (length all ≡ channels)
-    × (all ≡ tabulate (summaryAt states pairs earth) c ++ drop c all₀)
-    × (out ≡ filled (bytes_at states pairs earth) stretchSize c out₀)
+    × (all ≡ tabulate (summary_at states pairs earth) c ++ drop c all₀)
+    × (out ≡ filled (bytes_at states pairs earth) stretch_size c out₀)
 
-abbrev decreases-loop : tie.decreases-loop
-decreases-loop out₀ pairs earth states all₀ c₀ out all c = channels - c
+abbrev decreases_loop : tie.decreases_loop
+decreases_loop out₀ pairs earth states all₀ c₀ out all c = channels - c
 
 -- channel c's part of a list with k elements for each channel ends inside, and is k long
-part-inside : (xs : List ℕ) (k c : ℕ) → c < channels → length xs ≡ k * channels → k * c + k ≤ length xs
-part-inside xs k c below long = le_trans (cell-inside k c channels below) (le_of_eq (sym long))
+part_inside_lem : (xs : List ℕ) (k c : ℕ) → c < channels → length xs ≡ k * channels → k * c + k ≤ length xs
+part_inside_lem xs k c below long = le_trans (cell_inside k c channels below) (le_of_eq (sym long))
 
-part-long : (xs : List ℕ) (k c : ℕ) → c < channels → length xs ≡ k * channels → length (take (k * c + k - k * c) (drop (k * c) xs)) ≡ k
-part-long xs k c below long = ap length (part-is-take xs (k * c) k) ∙ length_part xs (k * c) k (part-inside xs k c below long)
+part_long : (xs : List ℕ) (k c : ℕ) → c < channels → length xs ≡ k * channels → length (take (k * c + k - k * c) (drop (k * c) xs)) ≡ k
+part_long xs k c below long = ap length (part_is_take xs (k * c) k) ∙ length_part xs (k * c) k (part_inside_lem xs k c below long)
 
-none-requires : tie.Need-none-requires invariant-loop decreases-loop
-none-requires c κs = tt
+none_requires : tie.Need-none-requires invariant_loop decreases_loop
+none_requires c κs = tt
 
-loop-holds : tie.Need-loop-init invariant-loop decreases-loop
-loop-holds c =
+loop_holds : tie.Need-loop-init invariant_loop decreases_loop
+loop_holds c =
     let s = c.before.before.before.before in
     let a = s.args in (
       lit≤ tt,
       s.requires.0.0,
       refl,
-      tabulated-none (summaryAt a.t2 a.pairs.now a.earth.now) (replicate channels c.none.result),
-      filled_none (bytes_at a.t2 a.pairs.now a.earth.now) stretchSize a.out.now,
+      tabulated_none (summary_at a.t2 a.pairs.now a.earth.now) (replicate channels c.none.result),
+      filled_none (bytes_at a.t2 a.pairs.now a.earth.now) stretch_size a.out.now,
     )
 
-mul-channel : tie.Need-overflow-mul-channel invariant-loop decreases-loop
-mul-channel c = Fits-below tt (mul-le-mul_right _ c.before.loop.invariant.0)
+mul_channel : tie.Need-overflow-mul-channel invariant_loop decreases_loop
+mul_channel c = Fits-below tt (mul-le-mul_right _ c.before.loop.invariant.0)
 
-array-copy-out-channel : tie.Need-array-copy-out-channel invariant-loop decreases-loop
-array-copy-out-channel c = c.loop-test.true
+array_copy_out_channel : tie.Need-array-copy-out-channel invariant_loop decreases_loop
+array_copy_out_channel c = c.loop-test.true
 
-mul-from : tie.Need-overflow-mul-from invariant-loop decreases-loop
-mul-from c = Fits-below tt (mul-le-mul_left earthSize c.before.before.loop.invariant.0)
+mul_from : tie.Need-overflow-mul-from invariant_loop decreases_loop
+mul_from c = Fits-below tt (mul-le-mul_left earth_size c.before.before.loop.invariant.0)
 
-mul-first : tie.Need-overflow-mul-first invariant-loop decreases-loop
-mul-first c = Fits-below tt (mul-le-mul_left pairsSize c.before.before.loop.invariant.0)
+mul_first : tie.Need-overflow-mul-first invariant_loop decreases_loop
+mul_first c = Fits-below tt (mul-le-mul_left pairs_size c.before.before.loop.invariant.0)
 
-mul-start : tie.Need-overflow-mul-start invariant-loop decreases-loop
-mul-start c = omega arith
+mul_start : tie.Need-overflow-mul-start invariant_loop decreases_loop
+mul_start c = omega arith
 
-add-write-channel : tie.Need-overflow-add-write-channel invariant-loop decreases-loop
-add-write-channel c = omega arith
+add_write_channel : tie.Need-overflow-add-write-channel invariant_loop decreases_loop
+add_write_channel c = omega arith
 
-sub-write-channel : tie.Need-overflow-sub-write-channel invariant-loop decreases-loop
-sub-write-channel c = omega arith
+sub_write_channel : tie.Need-overflow-sub-write-channel invariant_loop decreases_loop
+sub_write_channel c = omega arith
 
-part-write-channel-start : tie.Need-slice-bounds-write-channel-start invariant-loop decreases-loop
-part-write-channel-start c = omega arith
+part_write_channel_start : tie.Need-slice-bounds-write-channel-start invariant_loop decreases_loop
+part_write_channel_start c = omega arith
 
-part-write-channel-end : tie.Need-slice-bounds-write-channel-end invariant-loop decreases-loop
-part-write-channel-end c = omega arith
+part_write_channel_end : tie.Need-slice-bounds-write-channel-end invariant_loop decreases_loop
+part_write_channel_end c = omega arith
 
-add-write-channel-2 : tie.Need-overflow-add-write-channel-2 invariant-loop decreases-loop
-add-write-channel-2 c = Fits-below tt (cell-inside pairsSize c.before.before.before.loop.c channels c.before.before.loop-test.true)
+add_write_channel_2 : tie.Need-overflow-add-write-channel-2 invariant_loop decreases_loop
+add_write_channel_2 c = Fits-below tt (cell_inside pairs_size c.before.before.before.loop.c channels c.before.before.loop-test.true)
 
-mul-write-channel : tie.Need-overflow-mul-write-channel invariant-loop decreases-loop
-mul-write-channel c = omega arith
+mul_write_channel : tie.Need-overflow-mul-write-channel invariant_loop decreases_loop
+mul_write_channel c = omega arith
 
-sub-write-channel-2 : tie.Need-overflow-sub-write-channel-2 invariant-loop decreases-loop
-sub-write-channel-2 c = le-add_right _ _
+sub_write_channel_2 : tie.Need-overflow-sub-write-channel-2 invariant_loop decreases_loop
+sub_write_channel_2 c = le-add_right _ _
 
-part-write-channel-start-2 : tie.Need-slice-bounds-write-channel-start-2 invariant-loop decreases-loop
-part-write-channel-start-2 c = le-add_right _ _
+part_write_channel_start_2 : tie.Need-slice-bounds-write-channel-start-2 invariant_loop decreases_loop
+part_write_channel_start_2 c = le-add_right _ _
 
-part-write-channel-end-2 : tie.Need-slice-bounds-write-channel-end-2 invariant-loop decreases-loop
-part-write-channel-end-2 c =
+part_write_channel_end_2 : tie.Need-slice-bounds-write-channel-end-2 invariant_loop decreases_loop
+part_write_channel_end_2 c =
     let s = c.before.before.before.before.before.before.before.before in
-    part-inside s.args.pairs.now pairsSize c.before.before.before.loop.c c.before.before.loop-test.true s.requires.1.0
+    part_inside_lem s.args.pairs.now pairs_size c.before.before.before.loop.c c.before.before.loop-test.true s.requires.1.0
 
-add-write-channel-3 : tie.Need-overflow-add-write-channel-3 invariant-loop decreases-loop
-add-write-channel-3 c = Fits-below tt (cell-inside earthSize c.before.before.before.before.loop.c channels c.before.before.before.loop-test.true)
+add_write_channel_3 : tie.Need-overflow-add-write-channel-3 invariant_loop decreases_loop
+add_write_channel_3 c = Fits-below tt (cell_inside earth_size c.before.before.before.before.loop.c channels c.before.before.before.loop-test.true)
 
-sub-write-channel-3 : tie.Need-overflow-sub-write-channel-3 invariant-loop decreases-loop
-sub-write-channel-3 c = le-add_right _ _
+sub_write_channel_3 : tie.Need-overflow-sub-write-channel-3 invariant_loop decreases_loop
+sub_write_channel_3 c = le-add_right _ _
 
-part-write-channel-start-3 : tie.Need-slice-bounds-write-channel-start-3 invariant-loop decreases-loop
-part-write-channel-start-3 c = le-add_right _ _
+part_write_channel_start_3 : tie.Need-slice-bounds-write-channel-start-3 invariant_loop decreases_loop
+part_write_channel_start_3 c = le-add_right _ _
 
-part-write-channel-end-3 : tie.Need-slice-bounds-write-channel-end-3 invariant-loop decreases-loop
-part-write-channel-end-3 c =
+part_write_channel_end_3 : tie.Need-slice-bounds-write-channel-end-3 invariant_loop decreases_loop
+part_write_channel_end_3 c =
     let s = c.before.before.before.before.before.before.before.before.before in
-    part-inside s.args.earth.now earthSize c.before.before.before.before.loop.c c.before.before.before.loop-test.true s.requires.0.1
+    part_inside_lem s.args.earth.now earth_size c.before.before.before.before.loop.c c.before.before.before.loop-test.true s.requires.0.1
 
-write-channel-requires : tie.Need-write-channel-requires invariant-loop decreases-loop
-write-channel-requires c κs =
+write_channel_requires : tie.Need-write-channel-requires invariant_loop decreases_loop
+write_channel_requires c κs =
     let s = c.before.before.before.before.before.before.before.before.before.before in
     let k = c.before.before.before.before.before.loop.c in
     let below = c.before.before.before.before.loop-test.true in
     let pairs = s.args.pairs.now in
-    let lent = part-is-take pairs (pairsSize * k) pairsSize in (
-      (search rules, part-long s.args.earth.now earthSize k below s.requires.0.1, s.requires.0.2 k below),
-      (part-long pairs pairsSize k below s.requires.1.0, subst PairsRange (sym lent) (s.requires.1.1 k below)),
+    let lent = part_is_take pairs (pairs_size * k) pairs_size in (
+      (search rules, part_long s.args.earth.now earth_size k below s.requires.0.1, s.requires.0.2 k below),
+      (part_long pairs pairs_size k below s.requires.1.0, subst PairsRange (sym lent) (s.requires.1.1 k below)),
     )
 
-mul-all : tie.Need-overflow-mul-all invariant-loop decreases-loop
-mul-all c = Fits-below tt (mul-le-mul_right _ c.before.before.before.before.before.before.before.before.loop.invariant.0)
+mul_all : tie.Need-overflow-mul-all invariant_loop decreases_loop
+mul_all c = Fits-below tt (mul-le-mul_right _ c.before.before.before.before.before.before.before.before.loop.invariant.0)
 
-array-set-from-all : tie.Need-array-set-from-all invariant-loop decreases-loop
-array-set-from-all c = c.before.before.before.before.before.before.before.loop-test.true
+array_set_from_all : tie.Need-array-set-from-all invariant_loop decreases_loop
+array_set_from_all c = c.before.before.before.before.before.before.before.loop-test.true
 
-add-c : tie.Need-overflow-add-c invariant-loop decreases-loop
-add-c c = Fits-below {n = channels} tt (add-one-le c.before.before.before.before.before.before.before.loop-test.true)
+add_c : tie.Need-overflow-add-c invariant_loop decreases_loop
+add_c c = Fits-below {n = channels} tt (add-one-le c.before.before.before.before.before.before.before.loop-test.true)
 
-loop-less : tie.Need-loop-smaller invariant-loop decreases-loop
-loop-less c = let t = c.before.before.before.before.before.before.before in falls channels t.before.loop.c t.loop-test.true
+loop_less : tie.Need-loop-smaller invariant_loop decreases_loop
+loop_less c = let t = c.before.before.before.before.before.before.before in falls channels t.before.loop.c t.loop-test.true
 
-loop-again : tie.Need-loop-preserved invariant-loop decreases-loop
-loop-again c =
+loop_again : tie.Need-loop-preserved invariant_loop decreases_loop
+loop_again c =
     let w = c.before.before.write-channel in
     let t = c.before.before.before.before.before.before.before in
     let l = t.before in
@@ -156,27 +156,27 @@ loop-again c =
     let pairs = a.pairs.now in
     let earth = a.earth.now in
     let k = l.loop.c in
-    let start = stretchSize * k in
-    let lent = part-is-take pairs (pairsSize * k) pairsSize in
-    let counts = part-is-take earth (earthSize * k) earthSize in
-    let channel = get_or a.t2 k noChannel in
+    let start = stretch_size * k in
+    let lent = part_is_take pairs (pairs_size * k) pairs_size in
+    let counts = part_is_take earth (earth_size * k) earth_size in
+    let channel = get_or a.t2 k no_channel in
     let bytes : w.new.0 ≡ bytes_at a.t2 pairs earth k =
-    w.ensures.1 ∙ ap₂ (λ (p q : List ℕ). channelScenes (withPairs p) channel q) lent counts in
-    let summary : w.result ≡ summaryAt a.t2 pairs earth k =
-    w.ensures.0 ∙ ap₂ (λ (p q : List ℕ). summaryOf (withPairs p) channel q) lent counts in (
+    w.ensures.1 ∙ ap₂ (λ (p q : List ℕ). channel_scenes (with_pairs p) channel q) lent counts in
+    let summary : w.result ≡ summary_at a.t2 pairs earth k =
+    w.ensures.0 ∙ ap₂ (λ (p q : List ℕ). summary_of (with_pairs p) channel q) lent counts in (
       add-one-le t.loop-test.true,
       c.before.out.given.1 ∙ l.loop.invariant.1,
       simp length-set l.loop.invariant.2,
-      filled-by-store (summaryAt a.t2 pairs earth) (replicate channels l.before.none.result) k t.loop-test.true l.loop.invariant.3 summary,
-      filled-by-put (bytes_at a.t2 pairs earth) stretchSize (λ n. length-channel-scenes _ _ _) a.out.now k l.loop.invariant.4 bytes
-          (lent-part-is-put l.loop.out w.new.0 start (start + stretchSize) (ap (λ (n : ℕ). start + n) (ap length bytes ∙ length-channel-scenes (byPairs pairs k) channel _))),
+      filled_by_store (summary_at a.t2 pairs earth) (replicate channels l.before.none.result) k t.loop-test.true l.loop.invariant.3 summary,
+      filled-by-put (bytes_at a.t2 pairs earth) stretch_size (λ n. length_channel_scenes _ _ _) a.out.now k l.loop.invariant.4 bytes
+          (lent_part_is_put l.loop.out w.new.0 start (start + stretch_size) (ap (λ (n : ℕ). start + n) (ap length bytes ∙ length_channel_scenes (by_pairs pairs k) channel _))),
     )
 
-same_length : tie.Need-same-length invariant-loop decreases-loop
+same_length : tie.Need-same-length invariant_loop decreases_loop
 same_length c = let l = c.before in l.loop.invariant.1 ∙ sym c.before.before.before.before.before.before.requires.0.0
 
-returns : tie.Need-returns invariant-loop decreases-loop
-unfolding summaries sceneBytes
+returns : tie.Need-returns invariant_loop decreases_loop
+unfolding summaries scene_bytes
 returns c =
     let l = c.before in
     let s = c.before.before.before.before.before.before in
@@ -184,41 +184,41 @@ returns c =
     let pairs = a.pairs.now in
     let earth = a.earth.now in
     let last : l.loop.c ≡ channels = omega arith in (
-      tabulated-to-end (summaryAt a.t2 pairs earth) channels (replicate channels l.before.none.result) last (le_refl channels) l.loop.invariant.3,
-      filled-to-end (bytes_at a.t2 pairs earth) stretchSize channels a.out.now last s.requires.0.0 l.loop.invariant.4,
+      tabulated_to_end (summary_at a.t2 pairs earth) channels (replicate channels l.before.none.result) last (le_refl channels) l.loop.invariant.3,
+      filled_to_end (bytes_at a.t2 pairs earth) stretch_size channels a.out.now last s.requires.0.0 l.loop.invariant.4,
     )
 
-pub write-scenes-spec : {M : Type 1} → statement M
-write-scenes-spec =
+pub write_scenes_spec : {M : Type 1} → statement M
+write_scenes_spec =
     tie.close
     (tie.spec
-    invariant-loop
-    decreases-loop
-    none-requires
-    loop-holds
-    mul-channel
-    array-copy-out-channel
-    mul-from
-    mul-first
-    mul-start
-    add-write-channel
-    sub-write-channel
-    part-write-channel-start
-    part-write-channel-end
-    add-write-channel-2
-    mul-write-channel
-    sub-write-channel-2
-    part-write-channel-start-2
-    part-write-channel-end-2
-    add-write-channel-3
-    sub-write-channel-3
-    part-write-channel-start-3
-    part-write-channel-end-3
-    write-channel-requires
-    mul-all
-    array-set-from-all
-    add-c
-    loop-less
-    loop-again
+    invariant_loop
+    decreases_loop
+    none_requires
+    loop_holds
+    mul_channel
+    array_copy_out_channel
+    mul_from
+    mul_first
+    mul_start
+    add_write_channel
+    sub_write_channel
+    part_write_channel_start
+    part_write_channel_end
+    add_write_channel_2
+    mul_write_channel
+    sub_write_channel_2
+    part_write_channel_start_2
+    part_write_channel_end_2
+    add_write_channel_3
+    sub_write_channel_3
+    part_write_channel_start_3
+    part_write_channel_end_3
+    write_channel_requires
+    mul_all
+    array_set_from_all
+    add_c
+    loop_less
+    loop_again
     same_length
     returns)

@@ -5,88 +5,88 @@ use mathlib.Core.Path.{◌≡◌, sym, ap, subst, ◌∙◌}
 use mathlib.Core.List.{List}
 use lib.ListN.{length, get_or}
 use Rattle.lists.specs.Build.{filled}
-use Rattle.lists.proofs.Cells.{filled_none, filled-by-put, filled-to-end}
+use Rattle.lists.proofs.Cells.{filled_none, filled-by-put, filled_to_end}
 use Rattle.instrument.specs.Instrument.{channels}
 use Rattle.product.specs.declared.Summary.{Summary}
-use Rattle.product.specs.Summary.{noneDelivered}
-use Rattle.product.specs.Product.{summarySize, summaryBytes, summariesBytes}
+use Rattle.product.specs.Summary.{none_delivered}
+use Rattle.product.specs.Product.{summary_size, summary_bytes, summaries_bytes}
 use Rattle.product.specs.Steps.{Plain}
-use Rattle.product.proofs.PastSummaries.{summary-of}
-use Rattle.product.proofs.Lengths.{length-summary-bytes}
+use Rattle.product.proofs.PastSummaries.{summary_of}
+use Rattle.product.proofs.Lengths.{length_summary_bytes}
 use borrow.Author.Rules.{rules}
 use Rattle.product.proofs.write_summaries.Statement.{statement}
 use Rattle.product.proofs.write_summaries.Tie as tie
 
 abbrev bytes_at : List Summary → ℕ → List ℕ
-bytes_at all c = summaryBytes (get_or all c noneDelivered)
+bytes_at all c = summary_bytes (get_or all c none_delivered)
 
-abbrev invariant-loop : tie.invariant-loop
-invariant-loop out₀ all c₀ out c = (c ≤ channels) × (length out ≡ summarySize * channels) × (out ≡ filled (bytes_at all) summarySize c out₀)
+abbrev invariant_loop : tie.invariant_loop
+invariant_loop out₀ all c₀ out c = (c ≤ channels) × (length out ≡ summary_size * channels) × (out ≡ filled (bytes_at all) summary_size c out₀)
 
-abbrev decreases-loop : tie.decreases-loop
-decreases-loop out₀ all c₀ out c = channels - c
+abbrev decreases_loop : tie.decreases_loop
+decreases_loop out₀ all c₀ out c = channels - c
 
-loop-holds : tie.Need-loop-init invariant-loop decreases-loop
-loop-holds c = (search rules, search rules, filled_none (bytes_at c.before.args.t2) summarySize c.before.args.out.now)
+loop_holds : tie.Need-loop-init invariant_loop decreases_loop
+loop_holds c = (search rules, search rules, filled_none (bytes_at c.before.args.t2) summary_size c.before.args.out.now)
 
-mul-s : tie.Need-overflow-mul-s invariant-loop decreases-loop
-mul-s c = omega arith
+mul_s : tie.Need-overflow-mul-s invariant_loop decreases_loop
+mul_s c = omega arith
 
-array-copy-out-s : tie.Need-array-copy-out-s invariant-loop decreases-loop
-array-copy-out-s c = search rules
+array_copy_out_s : tie.Need-array-copy-out-s invariant_loop decreases_loop
+array_copy_out_s c = search rules
 
-mul-put-summary : tie.Need-overflow-mul-put-summary invariant-loop decreases-loop
-mul-put-summary c = omega arith
+mul_put_summary : tie.Need-overflow-mul-put-summary invariant_loop decreases_loop
+mul_put_summary c = omega arith
 
-put-summary-requires : tie.Need-put-summary-requires invariant-loop decreases-loop
-put-summary-requires c κs =
+put_summary_requires : tie.Need-put-summary-requires invariant_loop decreases_loop
+put_summary_requires c κs =
     let l = c.before.before.before in
     let s = l.before.before in (
       omega arith,
-      subst Plain (sym (summary-of s.args.t2 l.loop.c (search rules))) (s.requires.1 l.loop.c c.before.before.loop-test.true),
+      subst Plain (sym (summary_of s.args.t2 l.loop.c (search rules))) (s.requires.1 l.loop.c c.before.before.loop-test.true),
     )
 
-add-c : tie.Need-overflow-add-c invariant-loop decreases-loop
-add-c c = omega arith
+add_c : tie.Need-overflow-add-c invariant_loop decreases_loop
+add_c c = omega arith
 
-loop-less : tie.Need-loop-smaller invariant-loop decreases-loop
-loop-less c = omega arith
+loop_less : tie.Need-loop-smaller invariant_loop decreases_loop
+loop_less c = omega arith
 
-loop-again : tie.Need-loop-preserved invariant-loop decreases-loop
-loop-again c =
+loop_again : tie.Need-loop-preserved invariant_loop decreases_loop
+loop_again c =
     let w = c.before.before.put-summary in
     let l = c.before.before.before.before.before.before in
     let a = l.before.before.args in
     let k = l.loop.c in (
       omega arith,
       w.auto.0 ∙ l.loop.invariant.1,
-      filled-by-put (bytes_at a.t2) summarySize (λ i. length-summary-bytes _) a.out.now k
-          l.loop.invariant.2 (ap summaryBytes (summary-of a.t2 k (search rules))) w.ensures,
+      filled-by-put (bytes_at a.t2) summary_size (λ i. length_summary_bytes _) a.out.now k
+          l.loop.invariant.2 (ap summary_bytes (summary_of a.t2 k (search rules))) w.ensures,
     )
 
-same_length : tie.Need-same-length invariant-loop decreases-loop
+same_length : tie.Need-same-length invariant_loop decreases_loop
 same_length c = search rules
 
-returns : tie.Need-returns invariant-loop decreases-loop
-unfolding summariesBytes
+returns : tie.Need-returns invariant_loop decreases_loop
+unfolding summaries_bytes
 returns c =
     let l = c.before in
     let a = l.before.before.args in
-    filled-to-end (bytes_at a.t2) summarySize channels a.out.now (omega arith) l.before.before.requires.0 l.loop.invariant.2
+    filled_to_end (bytes_at a.t2) summary_size channels a.out.now (omega arith) l.before.before.requires.0 l.loop.invariant.2
 
-pub write-summaries-spec : {M : Type 1} → statement M
-write-summaries-spec =
+pub write_summaries_spec : {M : Type 1} → statement M
+write_summaries_spec =
     tie.close
     (tie.spec
-    invariant-loop
-    decreases-loop
-    loop-holds
-    mul-s
-    array-copy-out-s
-    mul-put-summary
-    put-summary-requires
-    add-c
-    loop-less
-    loop-again
+    invariant_loop
+    decreases_loop
+    loop_holds
+    mul_s
+    array_copy_out_s
+    mul_put_summary
+    put_summary_requires
+    add_c
+    loop_less
+    loop_again
     same_length
     returns)

@@ -3,22 +3,22 @@ use Prim.Native.Nat.{ℕ}
 use mathlib.Core.Path.{ap, sym, ◌∙◌}
 use lib.ListN.{length}
 use Rattle.lines.specs.declared.Calibrated.{Calibrated}
-use Rattle.lines.specs.Steps.{recordFed, calibratedLine, calibratedOf}
+use Rattle.lines.specs.Steps.{record_fed, calibrated_line, calibrated_of}
 use Rattle.programs.specs.declared.Made.{Made}
-use Rattle.programs.specs.Steps.{line_of, productLeft, made_of}
-use Rattle.programs.proofs.StepLaws.{written-size}
+use Rattle.programs.specs.Steps.{line_of, product_left, made_of}
+use Rattle.programs.proofs.StepLaws.{written_size}
 use borrow.Author.Rules.{rules}
 use Rattle.programs.proofs.calibrate.Statement.{statement}
 use Rattle.programs.proofs.calibrate.Tie as tie
 
-abbrev madeBy : Calibrated → Made
-madeBy l = record { calibrator = l.calibrator; line = l.errors; product = l.output }
+abbrev made_by : Calibrated → Made
+made_by l = record { calibrator = l.calibrator; line = l.errors; product = l.output }
 
-calibrate-record-requires : tie.Need-calibrate-record-requires
-calibrate-record-requires c κs = search rules
+calibrate_record_requires : tie.Need-calibrate-record-requires
+calibrate_record_requires c κs = search rules
 
 returns : tie.Need-returns
-unfolding calibratedOf line_of productLeft made_of
+unfolding calibrated_of line_of product_left made_of
 returns c =
     let told = c.before.calibrate-record.ensures in
     let a = c.before.before.before.before.before.args in
@@ -28,8 +28,8 @@ returns c =
       (
         told.1.0,
         (
-          ap madeBy told.1.1.0
-              ∙ ap (λ (n : ℕ). record { calibrator = (recordFed before scan).calibrator; line = length (calibratedLine before scan); product = n }) (sym (written-size before scan)),
+          ap made_by told.1.1.0
+              ∙ ap (λ (n : ℕ). record { calibrator = (record_fed before scan).calibrator; line = length (calibrated_line before scan); product = n }) (sym (written_size before scan)),
           told.1.1.1,
           told.1.1.2,
           told.1.1.3,
@@ -37,5 +37,5 @@ returns c =
       ),
     )
 
-pub calibrate-spec : {M : Type 1} → statement M
-calibrate-spec = tie.close (tie.spec calibrate-record-requires returns)
+pub calibrate_spec : {M : Type 1} → statement M
+calibrate_spec = tie.close (tie.spec calibrate_record_requires returns)

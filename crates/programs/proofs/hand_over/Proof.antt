@@ -2,27 +2,27 @@
 use mathlib.Core.Path.{refl, ◌∙◌}
 use mir.Syntax.{w32}
 use mir.ValLaws.{to_z-of_z}
-use Rattle.programs.specs.Steps.{line-due, product-due}
+use Rattle.programs.specs.Steps.{line_due, product-due}
 use borrow.Author.Rules.{rules}
 use Rattle.programs.proofs.hand_over.Statement.{statement}
 use Rattle.programs.proofs.hand_over.Tie as tie
 
-lines-to-requires : tie.Need-lines-to-requires
-lines-to-requires c κs = search rules
+lines_to_requires : tie.Need-lines-to-requires
+lines_to_requires c κs = search rules
 
-write-to-requires : tie.Need-write-to-requires
-write-to-requires c κs = let start = c.before.before.before in line-due start.args.product.now start.requires (to_z-of_z w32 _ (record { sfits = c.lines-to.type-inv }) ∙ c.lines-to.ensures)
+write_to_requires : tie.Need-write-to-requires
+write_to_requires c κs = let start = c.before.before.before in line_due start.args.product.now start.requires (to_z-of_z w32 _ (record { sfits = c.lines-to.type-inv }) ∙ c.lines-to.ensures)
 
-write-to-requires-2 : tie.Need-write-to-requires-2
-write-to-requires-2 c κs = let start = c.before.before.before.before in product-due start.args.line.now start.requires refl
+write_to_requires_2 : tie.Need-write-to-requires-2
+write_to_requires_2 c κs = let start = c.before.before.before.before in product-due start.args.line.now start.requires refl
 
-output-took-requires : tie.Need-output-took-requires
-output-took-requires c κs = search rules
+output_took_requires : tie.Need-output-took-requires
+output_took_requires c κs = search rules
 
 returns : tie.Need-returns
 returns c = search rules
 
-pub hand-over-spec : {M : Type 1} → statement M
-hand-over-spec =
+pub hand_over_spec : {M : Type 1} → statement M
+hand_over_spec =
     tie.close
-    (tie.spec lines-to-requires write-to-requires write-to-requires-2 output-took-requires returns)
+    (tie.spec lines_to_requires write_to_requires write_to_requires_2 output_took_requires returns)

@@ -7,75 +7,75 @@ use borrow.Author.Rules.{rules}
 use Rattle.programs.proofs.read_record.Statement.{statement}
 use Rattle.programs.proofs.read_record.Tie as tie
 
-abbrev invariant-loop : tie.invariant-loop
-invariant-loop whole₀ size₀ whole size = (size ≤ length whole) × (length whole ≡ length whole₀)
+abbrev invariant_loop : tie.invariant_loop
+invariant_loop whole₀ size₀ whole size = (size ≤ length whole) × (length whole ≡ length whole₀)
 
-abbrev decreases-loop : tie.decreases-loop
-decreases-loop whole₀ size₀ whole size = length whole - size
+abbrev decreases_loop : tie.decreases_loop
+decreases_loop whole₀ size₀ whole size = length whole - size
 
-loop-holds : tie.Need-loop-init invariant-loop decreases-loop
-loop-holds c = omega arith
+loop_holds : tie.Need-loop-init invariant_loop decreases_loop
+loop_holds c = omega arith
 
-sub_read : tie.Need-overflow-sub-read invariant-loop decreases-loop
+sub_read : tie.Need-overflow-sub-read invariant_loop decreases_loop
 sub_read c = omega arith
 
-part-read-start : tie.Need-slice-bounds-read-start invariant-loop decreases-loop
-part-read-start c = omega arith
+part_read_start : tie.Need-slice-bounds-read-start invariant_loop decreases_loop
+part_read_start c = omega arith
 
-part-read-end : tie.Need-slice-bounds-read-end invariant-loop decreases-loop
-part-read-end c = omega arith
+part_read_end : tie.Need-slice-bounds-read-end invariant_loop decreases_loop
+part_read_end c = omega arith
 
-read-requires : tie.Need-read-requires invariant-loop decreases-loop
-read-requires c κs = search rules
+read_requires : tie.Need-read-requires invariant_loop decreases_loop
+read_requires c κs = search rules
 
-returns : tie.Need-returns invariant-loop decreases-loop
+returns : tie.Need-returns invariant_loop decreases_loop
 returns c = ((omega arith, simp length-take (omega arith)), (omega arith, refl))
 
-sub-count : tie.Need-overflow-sub-count invariant-loop decreases-loop
-sub-count c = omega arith
+sub_count : tie.Need-overflow-sub-count invariant_loop decreases_loop
+sub_count c = omega arith
 
-part-count-start : tie.Need-slice-bounds-count-start invariant-loop decreases-loop
-part-count-start c = omega arith
+part_count_start : tie.Need-slice-bounds-count-start invariant_loop decreases_loop
+part_count_start c = omega arith
 
-part-count-end : tie.Need-slice-bounds-count-end invariant-loop decreases-loop
-part-count-end c = omega arith
+part_count_end : tie.Need-slice-bounds-count-end invariant_loop decreases_loop
+part_count_end c = omega arith
 
-count-requires : tie.Need-count-requires invariant-loop decreases-loop
-count-requires c κs = search rules
+count_requires : tie.Need-count-requires invariant_loop decreases_loop
+count_requires c κs = search rules
 
-returns-2 : tie.Need-returns-2 invariant-loop decreases-loop
-returns-2 c = ((omega arith, simp length-take (omega arith)), omega arith)
+returns_2 : tie.Need-returns-2 invariant_loop decreases_loop
+returns_2 c = ((omega arith, simp length-take (omega arith)), omega arith)
 
-add-size : tie.Need-overflow-add-size invariant-loop decreases-loop
-add-size c = omega arith
+add_size : tie.Need-overflow-add-size invariant_loop decreases_loop
+add_size c = omega arith
 
-loop-less : tie.Need-loop-smaller invariant-loop decreases-loop
-loop-less c = omega arith
+loop_less : tie.Need-loop-smaller invariant_loop decreases_loop
+loop_less c = omega arith
 
-loop-again : tie.Need-loop-preserved invariant-loop decreases-loop
-loop-again c = (omega arith, search rules)
+loop_again : tie.Need-loop-preserved invariant_loop decreases_loop
+loop_again c = (omega arith, search rules)
 
-returns-3 : tie.Need-returns-3 invariant-loop decreases-loop
-returns-3 c = ((omega arith, simp length-take (omega arith)), omega arith)
+returns_3 : tie.Need-returns-3 invariant_loop decreases_loop
+returns_3 c = ((omega arith, simp length-take (omega arith)), omega arith)
 
-pub read-record-spec : {M : Type 1} → statement M
-read-record-spec =
+pub read_record_spec : {M : Type 1} → statement M
+read_record_spec =
     tie.close
     (tie.spec
-    invariant-loop
-    decreases-loop
-    loop-holds
+    invariant_loop
+    decreases_loop
+    loop_holds
     sub_read
-    part-read-start
-    part-read-end
-    read-requires
+    part_read_start
+    part_read_end
+    read_requires
     returns
-    sub-count
-    part-count-start
-    part-count-end
-    count-requires
-    returns-2
-    add-size
-    loop-less
-    loop-again
-    returns-3)
+    sub_count
+    part_count_start
+    part_count_end
+    count_requires
+    returns_2
+    add_size
+    loop_less
+    loop_again
+    returns_3)

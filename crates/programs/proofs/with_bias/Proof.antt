@@ -4,71 +4,71 @@ use Prim.Native.Nat.{ℕ}
 use mathlib.Core.List.{List}
 use mathlib.Core.Path.{◌≡◌, ap, sym, subst, ◌∙◌}
 use Rattle.lists.specs.Tests.{passes}
-use Rattle.table.specs.Opening.{verdictOf}
+use Rattle.table.specs.Opening.{verdict_of}
 use Rattle.bias.specs.declared.Bias.{Bias}
-use Rattle.bias.specs.Opening.{biasOpening, AcceptedBias}
-use Rattle.bias.proofs.OpeningLaws.{bias-when-passed, accepted-bias-when-passed}
+use Rattle.bias.specs.Opening.{bias_opening, AcceptedBias}
+use Rattle.bias.proofs.OpeningLaws.{bias_when_passed, accepted_bias_when_passed}
 use Rattle.calibrator.specs.declared.Calibrator.{Calibrator}
 use Rattle.calibrator.specs.Feeding.{fresh_of}
 use Rattle.programs.specs.Runs.{Ran}
-use Rattle.programs.proofs.StepLaws.{refuses-by-variant}
+use Rattle.programs.proofs.StepLaws.{refuses_by_variant}
 use borrow.Author.Rules.{rules}
 use Rattle.programs.proofs.with_bias.Statement.{statement}
 use Rattle.programs.proofs.with_bias.Tie as tie
 
-passed : (c : tie.After-enum-told) → biasOpening c.before.before.before.before.args.bytes.now ≡ passes
-passed c = sym c.before.before.«open».ensures.0 ∙ ap verdictOf c.enum_told.given.1
+passed : (c : tie.After-enum-told) → bias_opening c.before.before.before.before.args.bytes.now ≡ passes
+passed c = sym c.before.before.«open».ensures.0 ∙ ap verdict_of c.enum_told.given.1
 
 -- the bias file is of the bytes that were read
-read-bytes : (c : tie.After-bias) → c.bias.result ≡ record { bytes = c.before.before.before.before.before.args.bytes.now }
-read-bytes c =
+read_bytes : (c : tie.After-bias) → c.bias.result ≡ record { bytes = c.before.before.before.before.before.args.bytes.now }
+read_bytes c =
     let opened = c.before.before.before.«open».ensures in
-    c.bias.ensures ∙ ap (λ (l : List ℕ). record { bytes = l }) (bias-when-passed _ opened.1 (passed c.before))
+    c.bias.ensures ∙ ap (λ (l : List ℕ). record { bytes = l }) (bias_when_passed _ opened.1 (passed c.before))
 
-open-requires : tie.Need-open-requires
-open-requires c κs = search rules
+open_requires : tie.Need-open-requires
+open_requires c κs = search rules
 
 enum_told : tie.Need-enum-told
 enum_told c = search rules
 
-bias-requires : tie.Need-bias-requires
-bias-requires c κs = search rules
+bias_requires : tie.Need-bias-requires
+bias_requires c κs = search rules
 
-fresh-requires : tie.Need-fresh-requires
-fresh-requires c κs =
+fresh_requires : tie.Need-fresh-requires
+fresh_requires c κs =
     let opened = c.before.before.before.«open».ensures in (
       c.before.before.before.before.before.requires,
-      subst (λ (b : Bias). AcceptedBias b.bytes) (sym c.bias.ensures) (accepted-bias-when-passed _ opened.1 opened.2 (passed c.before)),
+      subst (λ (b : Bias). AcceptedBias b.bytes) (sym c.bias.ensures) (accepted_bias_when_passed _ opened.1 opened.2 (passed c.before)),
     )
 
-each-record-requires : tie.Need-each-record-requires
-each-record-requires c κs = search rules
+each_record_requires : tie.Need-each-record-requires
+each_record_requires c κs = search rules
 
-refuse-requires : tie.Need-refuse-requires
-refuse-requires c κs = refuses-by-variant c.before.«open».result.answer c.match.keys2
+refuse_requires : tie.Need-refuse-requires
+refuse_requires c κs = refuses_by_variant c.before.«open».result.answer c.match.keys2
 
 returns : tie.Need-returns
 returns c =
     let begun = c.before.before in
     let table = begun.before.before.before.before.before.args.table in
-    let fresh = c.before.fresh.ensures.0 ∙ ap (fresh_of table) (read-bytes begun) in
+    let fresh = c.before.fresh.ensures.0 ∙ ap (fresh_of table) (read_bytes begun) in
     rw (passed begun.before) (c.each-record.result.calibrator, subst (λ (first : Calibrator). Ran first c.each-record.result) fresh c.each-record.ensures)
 
-returns-2 : tie.Need-returns-2
-returns-2 c =
+returns_2 : tie.Need-returns-2
+returns_2 c =
     let opened = c.before.before.«open» in
-    let refuses = refuses-by-variant opened.result.answer c.before.match.keys2 in
+    let refuses = refuses_by_variant opened.result.answer c.before.match.keys2 in
     rw (sym opened.ensures.0 ∙ refuses.fails-with) c.refuse.ensures
 
-pub with-bias-spec : {M : Type 1} → statement M
-with-bias-spec =
+pub with_bias_spec : {M : Type 1} → statement M
+with_bias_spec =
     tie.close
     (tie.spec
-    open-requires
+    open_requires
     enum_told
-    bias-requires
-    fresh-requires
-    each-record-requires
-    refuse-requires
+    bias_requires
+    fresh_requires
+    each_record_requires
+    refuse_requires
     returns
-    returns-2)
+    returns_2)

@@ -6,55 +6,55 @@ use mathlib.Core.List.{List}
 use lib.ListN.{take}
 use Rattle.lists.specs.Tests.{passes}
 use Rattle.table.specs.declared.Table.{Table}
-use Rattle.table.specs.Opening.{verdictOf, opening}
-use Rattle.table.proofs.OpeningLaws.{table-when-passed, accepted-when-passed}
-use Rattle.bias.specs.Opening.{biasOpening}
+use Rattle.table.specs.Opening.{verdict_of, opening}
+use Rattle.table.proofs.OpeningLaws.{table_when_passed, accepted_when_passed}
+use Rattle.bias.specs.Opening.{bias_opening}
 use Rattle.programs.specs.Runs.{UnderBias}
-use Rattle.programs.proofs.StepLaws.{refuses-by-variant}
+use Rattle.programs.proofs.StepLaws.{refuses_by_variant}
 use borrow.Author.Rules.{rules}
 use Rattle.programs.proofs.with_table.Statement.{statement}
 use Rattle.programs.proofs.with_table.Tie as tie
 
 passed : (c : tie.After-enum-told) → opening c.before.before.before.before.args.bytes.now ≡ passes
-passed c = sym c.before.before.«open».ensures.0 ∙ ap verdictOf c.enum_told.given.1
+passed c = sym c.before.before.«open».ensures.0 ∙ ap verdict_of c.enum_told.given.1
 
 -- the table is of the bytes that were read
-read-bytes : (c : tie.After-table) → c.table.result ≡ record { bytes = c.before.before.before.before.before.before.before.before.before.args.bytes.now }
-read-bytes c =
+read_bytes : (c : tie.After-table) → c.table.result ≡ record { bytes = c.before.before.before.before.before.before.before.before.before.args.bytes.now }
+read_bytes c =
     let told = c.before.before.before.before.before in
-    c.table.ensures ∙ ap (λ (l : List ℕ). record { bytes = l }) (table-when-passed _ told.before.before.«open».ensures.1 (passed told))
+    c.table.ensures ∙ ap (λ (l : List ℕ). record { bytes = l }) (table_when_passed _ told.before.before.«open».ensures.1 (passed told))
 
-open-requires : tie.Need-open-requires
-open-requires c κs = search rules
+open_requires : tie.Need-open-requires
+open_requires c κs = search rules
 
 enum_told : tie.Need-enum-told
 enum_told c = search rules
 
-slice-aggregate-read-file : tie.Need-slice-aggregate-read-file
-slice-aggregate-read-file c = search rules
+slice_aggregate_read_file : tie.Need-slice-aggregate-read-file
+slice_aggregate_read_file c = search rules
 
-slice-aggregate-read-file-2 : tie.Need-slice-aggregate-read-file-2
-slice-aggregate-read-file-2 c = search rules
+slice_aggregate_read_file_2 : tie.Need-slice-aggregate-read-file-2
+slice_aggregate_read_file_2 c = search rules
 
-read-file-requires : tie.Need-read-file-requires
-read-file-requires c κs = search rules
+read_file_requires : tie.Need-read-file-requires
+read_file_requires c κs = search rules
 
-table-requires : tie.Need-table-requires
-table-requires c κs = search rules
+table_requires : tie.Need-table-requires
+table_requires c κs = search rules
 
-array-share-prefix-pairs : tie.Need-array-share-prefix-pairs
-array-share-prefix-pairs c = search rules
+array_share_prefix_pairs : tie.Need-array-share-prefix-pairs
+array_share_prefix_pairs c = search rules
 
-slice-aggregate-with-bias : tie.Need-slice-aggregate-with-bias
-slice-aggregate-with-bias c = search rules
+slice_aggregate_with_bias : tie.Need-slice-aggregate-with-bias
+slice_aggregate_with_bias c = search rules
 
-with-bias-requires : tie.Need-with-bias-requires
-with-bias-requires c κs =
+with_bias_requires : tie.Need-with-bias-requires
+with_bias_requires c κs =
     let told = c.before.before.before.before.before.before in
-    accepted-when-passed _ (ap (λ (t : Table). t.bytes) c.before.table.ensures ∙ told.before.before.«open».ensures.1) (passed told)
+    accepted_when_passed _ (ap (λ (t : Table). t.bytes) c.before.table.ensures ∙ told.before.before.«open».ensures.1) (passed told)
 
-refuse-requires : tie.Need-refuse-requires
-refuse-requires c κs = refuses-by-variant c.before.«open».result.answer c.match.keys2
+refuse_requires : tie.Need-refuse-requires
+refuse_requires c κs = refuses_by_variant c.before.«open».result.answer c.match.keys2
 
 returns : tie.Need-returns
 returns c =
@@ -62,27 +62,27 @@ returns c =
     let read = opened.before.before.read-file in
     let pairs = take read.result read.new.1.0 in
     rw (passed opened.before.before.before.before.before)
-    (pairs, subst (λ (t : Table). UnderBias (biasOpening pairs) t pairs c.with-bias.result) (read-bytes opened) c.with-bias.ensures)
+    (pairs, subst (λ (t : Table). UnderBias (bias_opening pairs) t pairs c.with-bias.result) (read_bytes opened) c.with-bias.ensures)
 
-returns-2 : tie.Need-returns-2
-returns-2 c =
+returns_2 : tie.Need-returns-2
+returns_2 c =
     let opened = c.before.before.«open» in
-    let refuses = refuses-by-variant opened.result.answer c.before.match.keys2 in
+    let refuses = refuses_by_variant opened.result.answer c.before.match.keys2 in
     rw (sym opened.ensures.0 ∙ refuses.fails-with) c.refuse.ensures
 
-pub with-table-spec : {M : Type 1} → statement M
-with-table-spec =
+pub with_table_spec : {M : Type 1} → statement M
+with_table_spec =
     tie.close
     (tie.spec
-    open-requires
+    open_requires
     enum_told
-    slice-aggregate-read-file
-    slice-aggregate-read-file-2
-    read-file-requires
-    table-requires
-    array-share-prefix-pairs
-    slice-aggregate-with-bias
-    with-bias-requires
-    refuse-requires
+    slice_aggregate_read_file
+    slice_aggregate_read_file_2
+    read_file_requires
+    table_requires
+    array_share_prefix_pairs
+    slice_aggregate_with_bias
+    with_bias_requires
+    refuse_requires
     returns
-    returns-2)
+    returns_2)

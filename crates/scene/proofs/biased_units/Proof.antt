@@ -1,5 +1,5 @@
 -- `scene::biased_units` meets its contract: T and the two numbers are natural, their product is below 2^38, and with the offset and
--- the last bit of its own quotient it is divided as `r-of-naturals` does it; with c0 it is from 1 to 16,777,215. Assumes nothing.
+-- the last bit of its own quotient it is divided as `r_of_naturals` does it; with c0 it is from 1 to 16,777,215. Assumes nothing.
 use Prim.Native.Nat.{ℕ, ◌+◌, ◌*◌, ◌/◌, ◌%◌, ◌≤◌}
 use native.Mathlib.Omega.{arith}
 use mathlib.Core.Path.{◌≡◌, sym, ap, ◌∙◌}
@@ -12,24 +12,24 @@ use mir.Val.{SFits, to_z}
 use mir.ValLaws.{to_z_pos}
 use Rattle.integers.specs.Rounding.{r}
 use Rattle.integers.proofs.Ring.{◌:+◌, ◌:-◌, ring, #, v0, v1}
-use Rattle.integers.proofs.Naturals.{natural-at-most, at-most-natural}
-use Rattle.integers.proofs.Order.{at-most-trans}
-use Rattle.integers.proofs.Bounds.{bounded-sum, bounded-not-negative}
-use Rattle.integers.proofs.Machine.{bounded-fits, reads-back, unsigned-fits}
-use Rattle.integers.proofs.Nearest.{r-of-naturals}
+use Rattle.integers.proofs.Naturals.{natural_at_most, at_most_natural}
+use Rattle.integers.proofs.Order.{at_most_trans}
+use Rattle.integers.proofs.Bounds.{bounded_sum, bounded_not_negative}
+use Rattle.integers.proofs.Machine.{bounded_fits, reads_back, unsigned_fits}
+use Rattle.integers.proofs.Nearest.{r_of_naturals}
 use Rattle.scene.specs.Temperature.{biased}
-use Rattle.scene.specs.Steps.{c0Of, eOf}
-use Rattle.scene.proofs.BiasRange.{product-bounded, rounded-low, rounded-high}
+use Rattle.scene.specs.Steps.{c0_of, e_of}
+use Rattle.scene.proofs.BiasRange.{product_bounded, rounded_low, rounded_high}
 use Rattle.scene.proofs.biased_units.Statement.{statement}
 use Rattle.scene.proofs.biased_units.Tie as tie
 
 -- ---- on natural numbers
-quotient-is-rounding : (a : ℕ) → pos ((a + 32767 + a / 65536 % 2) / 65536) ≡ r (pos a) (pos 65536)
-quotient-is-rounding a = r-of-naturals a 32768 (omega arith)
+quotient_is_rounding : (a : ℕ) → pos ((a + 32767 + a / 65536 % 2) / 65536) ≡ r (pos a) (pos 65536)
+quotient_is_rounding a = r_of_naturals a 32768 (omega arith)
 
 module _ (p offset : ℕ) (below_half : offset % 65536 ≡ 32767) where
-  quotient-parts : (p + offset + p / 65536 % 2) / 65536 ≡ offset / 65536 + (p + 32767 + p / 65536 % 2) / 65536
-  quotient-parts = omega arith
+  quotient_parts : (p + offset + p / 65536 % 2) / 65536 ≡ offset / 65536 + (p + 32767 + p / 65536 % 2) / 65536
+  quotient_parts = omega arith
 
 -- ---- what the contract gives
 module _ (s : tie.Start) where
@@ -42,72 +42,72 @@ module _ (s : tie.Start) where
   abbrev quotient : ℕ
   quotient = (product + s.args.offset + product / 65536 % 2) / 65536
 
-  t-not-negative : pos 0 ≤ℤ s.args.t
-  t-not-negative = at-most-trans (natural-at-most (omega arith)) s.pre.0
+  t_not_negative : pos 0 ≤ℤ s.args.t
+  t_not_negative = at_most_trans (natural_at_most (omega arith)) s.pre.0
 
-  t-is : pos t ≡ s.args.t
-  t-is = pos-nat_abs s.args.t (yes_non_neg t-not-negative)
+  t_is : pos t ≡ s.args.t
+  t_is = pos-nat_abs s.args.t (yes_non_neg t_not_negative)
 
-  product_is : (pos 65536 +ℤ eOf s.args.factor) *ℤ s.args.t ≡ pos product
+  product_is : (pos 65536 +ℤ e_of s.args.factor) *ℤ s.args.t ≡ pos product
   product_is =
       ap (λ z. z *ℤ s.args.t) (ring (pos s.args.factor ∷ []) (# 65536 :+ (v0 :- # 65536)) v0 tt)
-      ∙ ap (λ z. pos s.args.factor *ℤ z) (sym t-is)
+      ∙ ap (λ z. pos s.args.factor *ℤ z) (sym t_is)
 
   product_small : product ≤ 180189659136
-  product_small = at-most-natural (rw product_is at (product-bounded s.pre.2.c0 s.pre.2.e s.pre.0 s.pre.1).high)
+  product_small = at_most_natural (rw product_is at (product_bounded s.pre.2.c0 s.pre.2.e s.pre.0 s.pre.1).high)
 
-  quotient-small : quotient ≤ 2815011
-  quotient-small = omega (arith, product_small)
+  quotient_small : quotient ≤ 2815011
+  quotient_small = omega (arith, product_small)
 
-  delivered-is : pos quotient -ℤ pos 32768 ≡ biased (c0Of s.args.offset) (eOf s.args.factor) s.args.t
+  delivered_is : pos quotient -ℤ pos 32768 ≡ biased (c0_of s.args.offset) (e_of s.args.factor) s.args.t
   unfolding biased
-  delivered-is =
+  delivered_is =
       let high = pos (s.args.offset / 65536) in
       let rounded = r (pos product) (pos 65536) in
-      ap (λ (n : ℕ). pos n -ℤ pos 32768) (quotient-parts product s.args.offset s.pre.2.below_half)
-      ∙ ap (λ z. high +ℤ z -ℤ pos 32768) (quotient-is-rounding product)
+      ap (λ (n : ℕ). pos n -ℤ pos 32768) (quotient_parts product s.args.offset s.pre.2.below_half)
+      ∙ ap (λ z. high +ℤ z -ℤ pos 32768) (quotient_is_rounding product)
       ∙ ring (high ∷ rounded ∷ []) (v0 :+ v1 :- # 32768) (v0 :- # 32768 :+ v1) tt
-      ∙ ap (λ z. c0Of s.args.offset +ℤ r z (pos 65536)) (sym product_is)
+      ∙ ap (λ z. c0_of s.args.offset +ℤ r z (pos 65536)) (sym product_is)
 
-  delivered-fits : SFits w32 (pos quotient -ℤ pos 32768)
+  delivered_fits : SFits w32 (pos quotient -ℤ pos 32768)
   unfolding biased
-  delivered-fits =
-      let rounded = rounded-high s.pre.2.c0 s.pre.2.e s.pre.0 s.pre.1 in
-      let not_negative = at-most-trans (natural-at-most {m = 0} {n = 5583} (omega arith)) (rounded-low s.pre.2.c0 s.pre.2.e s.pre.0 s.pre.1) in
-      rw delivered-is (bounded-fits (bounded-sum s.pre.2.c0 (bounded-not-negative not_negative rounded)) (lit< tt))
+  delivered_fits =
+      let rounded = rounded_high s.pre.2.c0 s.pre.2.e s.pre.0 s.pre.1 in
+      let not_negative = at_most_trans (natural_at_most {m = 0} {n = 5583} (omega arith)) (rounded_low s.pre.2.c0 s.pre.2.e s.pre.0 s.pre.1) in
+      rw delivered_is (bounded_fits (bounded_sum s.pre.2.c0 (bounded_not_negative not_negative rounded)) (lit< tt))
 
-  quotient-reads-back : to_z w32 quotient ≡ pos quotient
-  quotient-reads-back = to_z_pos w32 quotient (omega (arith, quotient-small))
+  quotient_reads_back : to_z w32 quotient ≡ pos quotient
+  quotient_reads_back = to_z_pos w32 quotient (omega (arith, quotient_small))
 
-cast-product : tie.Need-overflow-cast-product
-cast-product c = rw (reads-back c.ranges.t) (unsigned-fits (t-not-negative c) c.ranges.t)
+cast_product : tie.Need-overflow-cast-product
+cast_product c = rw (reads_back c.ranges.t) (unsigned_fits (t_not_negative c) c.ranges.t)
 
-mul-product : tie.Need-overflow-mul-product
-mul-product c = rw (reads-back c.ranges.t) (record { fits = omega (arith, product_small c) })
+mul_product : tie.Need-overflow-mul-product
+mul_product c = rw (reads_back c.ranges.t) (record { fits = omega (arith, product_small c) })
 
-add-result : tie.Need-overflow-add-result
-add-result c = rw (reads-back c.ranges.t) (record { fits = omega (arith, product_small c) })
+add_result : tie.Need-overflow-add-result
+add_result c = rw (reads_back c.ranges.t) (record { fits = omega (arith, product_small c) })
 
-add-result-2 : tie.Need-overflow-add-result-2
-add-result-2 c = rw (reads-back c.ranges.t) (record { fits = omega (arith, product_small c) })
+add_result_2 : tie.Need-overflow-add-result-2
+add_result_2 c = rw (reads_back c.ranges.t) (record { fits = omega (arith, product_small c) })
 
-cast-result : tie.Need-overflow-cast-result
-cast-result c = rw (reads-back c.ranges.t) (record { sfits = omega (arith, quotient-small c) })
+cast_result : tie.Need-overflow-cast-result
+cast_result c = rw (reads_back c.ranges.t) (record { sfits = omega (arith, quotient_small c) })
 
-sub-result : tie.Need-overflow-sub-result
-sub-result c = rw (reads-back c.ranges.t, quotient-reads-back c) (delivered-fits c)
+sub_result : tie.Need-overflow-sub-result
+sub_result c = rw (reads_back c.ranges.t, quotient_reads_back c) (delivered_fits c)
 
 returns : tie.Need-returns
-returns c = rw (reads-back c.ranges.t, quotient-reads-back c, reads-back (delivered-fits c)) (delivered-is c)
+returns c = rw (reads_back c.ranges.t, quotient_reads_back c, reads_back (delivered_fits c)) (delivered_is c)
 
-pub biased-units-spec : {M : Type 1} → statement M
-biased-units-spec =
+pub biased_units_spec : {M : Type 1} → statement M
+biased_units_spec =
     tie.close
     (tie.spec
-    cast-product
-    mul-product
-    add-result
-    add-result-2
-    cast-result
-    sub-result
+    cast_product
+    mul_product
+    add_result
+    add_result_2
+    cast_result
+    sub_result
     returns)

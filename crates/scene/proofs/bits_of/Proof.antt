@@ -8,15 +8,15 @@ use Rattle.scene.specs.Scene.{bits}
 use Rattle.scene.proofs.bits_of.Statement.{statement}
 use Rattle.scene.proofs.bits_of.Tie as tie
 
-value-of-requires : tie.Need-value-of-requires
-value-of-requires c κs = search rules
+value_of_requires : tie.Need-value-of-requires
+value_of_requires c κs = search rules
 
-float-to-bits-result : tie.Need-float-to-bits-result
-float-to-bits-result c = subst (λ x. T (not (is_nan x))) (sym c.value_of_lem.ensures) c.before.requires
+float_to_bits_result : tie.Need-float-to-bits-result
+float_to_bits_result c = subst (λ x. T (not (is_nan x))) (sym c.value_of_lem.ensures) c.before.requires
 
 returns : tie.Need-returns
 unfolding bits
 returns c = ap (to_bits binary32) c.value_of_lem.ensures
 
-pub bits-of-spec : {M : Type 1} → statement M
-bits-of-spec = tie.close (tie.spec value-of-requires float-to-bits-result returns)
+pub bits_of_spec : {M : Type 1} → statement M
+bits_of_spec = tie.close (tie.spec value_of_requires float_to_bits_result returns)

@@ -6,68 +6,68 @@ use native.Mathlib.Omega.{arith}
 use lib.IntN.{pos, ◌*ℤ◌}
 use lib.Signed.{lt_z}
 use borrow.Author.Rules.{rules}
-use Rattle.integers.proofs.Order.{ltZ-false}
-use Rattle.integers.proofs.Machine.{reads-back, result-reads-back}
+use Rattle.integers.proofs.Order.{lt_z_false}
+use Rattle.integers.proofs.Machine.{reads_back, result_reads_back}
 use Rattle.scene.specs.Scene.{numerator}
-use Rattle.scene.proofs.Numerator.{slope-count-is, slope-count-fits, n-is, n-fits, above-test}
-use Rattle.scene.proofs.Delivered.{temperatureOf}
-use Rattle.scene.proofs.Placed.{placed_below, placed-above, placed-between}
+use Rattle.scene.proofs.Numerator.{slope_count_is, slope_count_fits, n_is, n_fits, above_test}
+use Rattle.scene.proofs.Delivered.{temperature_of}
+use Rattle.scene.proofs.Placed.{placed_below, placed_above, placed_between}
 use Rattle.scene.proofs.placed_units.Statement.{statement}
 use Rattle.scene.proofs.placed_units.Tie as tie
 
-count-high : (s : tie.Start) → s.args.count ≤ 65535
-count-high s = omega arith
+count_high : (s : tie.Start) → s.args.count ≤ 65535
+count_high s = omega arith
 
-cast-n : tie.Need-overflow-cast-n
-cast-n c = search rules
+cast_n : tie.Need-overflow-cast-n
+cast_n c = search rules
 
-mul-n : tie.Need-overflow-mul-n
-mul-n c = let s = c.before.before in rw (slope-count-is s.requires.0 (count-high s)) (slope-count-fits s.requires.0 (count-high s))
+mul_n : tie.Need-overflow-mul-n
+mul_n c = let s = c.before.before in rw (slope_count_is s.requires.0 (count_high s)) (slope_count_fits s.requires.0 (count_high s))
 
-sub-n : tie.Need-overflow-sub-n
-sub-n c = let s = c.before.before.before.before in rw (n-is s.requires.0 (count-high s)) (n-fits s.requires.0 (count-high s))
+sub_n : tie.Need-overflow-sub-n
+sub_n c = let s = c.before.before.before.before in rw (n_is s.requires.0 (count_high s)) (n_fits s.requires.0 (count_high s))
 
 returns : tie.Need-returns
 returns c =
     let s = c.before.before.before.before.before in
-    placed_below s.args.k s.args.count (rw (n-is s.requires.0 (count-high s), reads-back (n-fits s.requires.0 (count-high s))) at c.if1.true)
+    placed_below s.args.k s.args.count (rw (n_is s.requires.0 (count_high s), reads_back (n_fits s.requires.0 (count_high s))) at c.if1.true)
 
 module _ (c : tie.Else1) where
   abbrev begin : tie.Start
   begin = c.before.before.before.before.before
 
   not_negative : lt_z (numerator begin.args.k begin.args.count) (pos 0) ≡ false
-  not_negative = rw (n-is begin.pre.0 (count-high begin), reads-back (n-fits begin.pre.0 (count-high begin))) at c.if1.false
+  not_negative = rw (n_is begin.pre.0 (count_high begin), reads_back (n_fits begin.pre.0 (count_high begin))) at c.if1.false
 
-returns-2 : tie.Need-returns-2
-returns-2 c =
+returns_2 : tie.Need-returns-2
+returns_2 c =
     let e = c.before.before.before in
     let s = begin e in
-    placed-above s.args.k s.args.count (not_negative e) (above-test s.pre.0 (count-high s) s.args.scale s.pre.1 true c.if2.true)
+    placed_above s.args.k s.args.count (not_negative e) (above_test s.pre.0 (count_high s) s.args.scale s.pre.1 true c.if2.true)
 
 module _ (c : tie.Else2) where
   abbrev start : tie.Start
   start = begin c.before.before.before
 
-  not-above : lt_z (pos 5 *ℤ start.args.k.d) (pos 4 *ℤ numerator start.args.k start.args.count) ≡ false
-  not-above = above-test start.pre.0 (count-high start) start.args.scale start.pre.1 false c.if2.false
+  not_above_lem : lt_z (pos 5 *ℤ start.args.k.d) (pos 4 *ℤ numerator start.args.k start.args.count) ≡ false
+  not_above_lem = above_test start.pre.0 (count_high start) start.args.scale start.pre.1 false c.if2.false
 
-units-requires : tie.Need-units-requires
-units-requires c κs =
+units_requires : tie.Need-units-requires
+units_requires c κs =
     let s = start c in
-    rw (n-is s.pre.0 (count-high s), reads-back (n-fits s.pre.0 (count-high s))) (s.pre.0, s.pre.1, ltZ-false (not_negative c.before.before.before), ltZ-false (not-above c))
+    rw (n_is s.pre.0 (count_high s), reads_back (n_fits s.pre.0 (count_high s))) (s.pre.0, s.pre.1, lt_z_false (not_negative c.before.before.before), lt_z_false (not_above_lem c))
 
-t-is : (c : tie.After-units) → c.units.result ≡ temperatureOf (start c.before).args.k (start c.before).args.count
-t-is c =
+t_is : (c : tie.After-units) → c.units.result ≡ temperature_of (start c.before).args.k (start c.before).args.count
+t_is c =
     let s = start c.before in
-    rw (n-is s.pre.0 (count-high s), reads-back (n-fits s.pre.0 (count-high s))) at c.units.ensures
+    rw (n_is s.pre.0 (count_high s), reads_back (n_fits s.pre.0 (count_high s))) at c.units.ensures
 
-returns-3 : tie.Need-returns-3
-returns-3 c =
+returns_3 : tie.Need-returns-3
+returns_3 c =
     let e = c.before in
     let s = start e in
-    result-reads-back c.units.result c.units.type-inv ∙ t-is c ∙ placed-between s.args.k s.args.count (not_negative e.before.before.before) (not-above e)
+    result_reads_back c.units.result c.units.type-inv ∙ t_is c ∙ placed_between s.args.k s.args.count (not_negative e.before.before.before) (not_above_lem e)
 
-pub placed-units-spec : {M : Type 1} → statement M
-placed-units-spec =
-    tie.close (tie.spec cast-n mul-n sub-n returns returns-2 units-requires returns-3)
+pub placed_units_spec : {M : Type 1} → statement M
+placed_units_spec =
+    tie.close (tie.spec cast_n mul_n sub_n returns returns_2 units_requires returns_3)

@@ -9,87 +9,87 @@ use mir.Syntax.{w64}
 use mir.Val.{SFits}
 use Rattle.integers.specs.Rounding.{r}
 use Rattle.integers.specs.Bounds.{Bounded}
-use Rattle.integers.proofs.Bounds.{bounded-size}
-use Rattle.integers.proofs.Machine.{bounded-fits, reads-back, natural-reads-back, unsigned-fits}
-use Rattle.integers.proofs.Nearest.{r-shifted}
-use Rattle.scene.specs.Steps.{bendOf}
-use Rattle.scene.proofs.Ranges.{rest-of-x-bounded, x-product-bounded, x-curve-bounded, raised-not-negative, raised-bounded, raised-bend-bounded}
+use Rattle.integers.proofs.Bounds.{bounded_size}
+use Rattle.integers.proofs.Machine.{bounded_fits, reads_back, natural_reads_back, unsigned_fits}
+use Rattle.integers.proofs.Nearest.{r_shifted}
+use Rattle.scene.specs.Steps.{bend_of}
+use Rattle.scene.proofs.Ranges.{rest_of_x_bounded, x_product_bounded, x_curve_bounded, raised_not_negative, raised_bounded, raised_bend_bounded}
 use Rattle.scene.proofs.raised_bend.Statement.{statement}
 use Rattle.scene.proofs.raised_bend.Tie as tie
 
 module _ {x curve : ℤ} (h : Bounded x (pos 81920) × Bounded curve (pos 32768)) where
-  rest-of-x-fits : SFits w64 (pos 65536 -ℤ x)
-  rest-of-x-fits = bounded-fits (rest-of-x-bounded h.0 h.1) (lit< tt)
+  rest_of_x_fits : SFits w64 (pos 65536 -ℤ x)
+  rest_of_x_fits = bounded_fits (rest_of_x_bounded h.0 h.1) (lit< tt)
 
-  x-product-fits : SFits w64 (x *ℤ (pos 65536 -ℤ x))
-  x-product-fits = bounded-fits (x-product-bounded h.0 h.1) (lit< tt)
+  x_product_fits : SFits w64 (x *ℤ (pos 65536 -ℤ x))
+  x_product_fits = bounded_fits (x_product_bounded h.0 h.1) (lit< tt)
 
-  x-curve-fits : SFits w64 (x *ℤ (pos 65536 -ℤ x) *ℤ curve)
-  x-curve-fits = bounded-fits (x-curve-bounded h.0 h.1) (lit< tt)
+  x_curve_fits : SFits w64 (x *ℤ (pos 65536 -ℤ x) *ℤ curve)
+  x_curve_fits = bounded_fits (x_curve_bounded h.0 h.1) (lit< tt)
 
-  raised-fits : SFits w64 (x *ℤ (pos 65536 -ℤ x) *ℤ curve +ℤ pos 4503599627370496)
-  raised-fits = bounded-fits (raised-bounded h.0 h.1) (lit< tt)
+  raised_fits : SFits w64 (x *ℤ (pos 65536 -ℤ x) *ℤ curve +ℤ pos 4503599627370496)
+  raised_fits = bounded_fits (raised_bounded h.0 h.1) (lit< tt)
 
-  raised-bend-fits : SFits w64 (bendOf x curve +ℤ pos 1048576)
-  raised-bend-fits = bounded-fits (raised-bend-bounded h.0 h.1) (lit< tt)
+  raised_bend_fits : SFits w64 (bend_of x curve +ℤ pos 1048576)
+  raised_bend_fits = bounded_fits (raised_bend_bounded h.0 h.1) (lit< tt)
 
-sub-raised : tie.Need-overflow-sub-raised
-sub-raised c = rw (reads-back c.ranges.x) (rest-of-x-fits c.requires)
+sub_raised : tie.Need-overflow-sub-raised
+sub_raised c = rw (reads_back c.ranges.x) (rest_of_x_fits c.requires)
 
-mul-raised : tie.Need-overflow-mul-raised
-mul-raised c = let h = c.requires in rw (reads-back c.ranges.x, reads-back (rest-of-x-fits h)) (x-product-fits h)
+mul_raised : tie.Need-overflow-mul-raised
+mul_raised c = let h = c.requires in rw (reads_back c.ranges.x, reads_back (rest_of_x_fits h)) (x_product_fits h)
 
-mul-raised-2 : tie.Need-overflow-mul-raised-2
-mul-raised-2 c =
+mul_raised_2 : tie.Need-overflow-mul-raised-2
+mul_raised_2 c =
     let h = c.requires in
-    rw (reads-back c.ranges.x, reads-back c.ranges.curve, reads-back (rest-of-x-fits h), reads-back (x-product-fits h)) (x-curve-fits h)
+    rw (reads_back c.ranges.x, reads_back c.ranges.curve, reads_back (rest_of_x_fits h), reads_back (x_product_fits h)) (x_curve_fits h)
 
-add-raised : tie.Need-overflow-add-raised
-add-raised c =
+add_raised : tie.Need-overflow-add-raised
+add_raised c =
     let h = c.requires in
-    rw (reads-back c.ranges.x, reads-back c.ranges.curve, reads-back (rest-of-x-fits h), reads-back (x-product-fits h), reads-back (x-curve-fits h)) (raised-fits h)
+    rw (reads_back c.ranges.x, reads_back c.ranges.curve, reads_back (rest_of_x_fits h), reads_back (x_product_fits h), reads_back (x_curve_fits h)) (raised_fits h)
 
-cast-round-natural : tie.Need-overflow-cast-round-natural
-cast-round-natural c =
+cast_round_natural : tie.Need-overflow-cast-round-natural
+cast_round_natural c =
     let h = c.requires in
-    rw (reads-back c.ranges.x, reads-back c.ranges.curve, reads-back (rest-of-x-fits h), reads-back (x-product-fits h), reads-back (x-curve-fits h), reads-back (raised-fits h))
-    (unsigned-fits (raised-not-negative h.0 h.1) (raised-fits h))
+    rw (reads_back c.ranges.x, reads_back c.ranges.curve, reads_back (rest_of_x_fits h), reads_back (x_product_fits h), reads_back (x_curve_fits h), reads_back (raised_fits h))
+    (unsigned_fits (raised_not_negative h.0 h.1) (raised_fits h))
 
-round-natural-requires : tie.Need-round-natural-requires
-round-natural-requires c κs =
+round_natural_requires : tie.Need-round-natural-requires
+round_natural_requires c κs =
     let h = c.requires in
-    rw (reads-back c.ranges.x, reads-back c.ranges.curve, reads-back (rest-of-x-fits h), reads-back (x-product-fits h), reads-back (x-curve-fits h), reads-back (raised-fits h))
-    (le_trans (bounded-size (raised-bounded h.0 h.1)) (lit≤ tt), lit< tt, lit≤ tt)
+    rw (reads_back c.ranges.x, reads_back c.ranges.curve, reads_back (rest_of_x_fits h), reads_back (x_product_fits h), reads_back (x_curve_fits h), reads_back (raised_fits h))
+    (le_trans (bounded_size (raised_bounded h.0 h.1)) (lit≤ tt), lit< tt, lit≤ tt)
 
 module _ (c : tie.After-round-natural) where
   abbrev product : ℤ
   product = c.before.args.x *ℤ (pos 65536 -ℤ c.before.args.x) *ℤ c.before.args.curve
 
-  raised-bend-is : pos c.round-natural.result ≡ r product (pos 4294967296) +ℤ pos 1048576
-  raised-bend-is =
+  raised_bend_is : pos c.round-natural.result ≡ r product (pos 4294967296) +ℤ pos 1048576
+  raised_bend_is =
       let s = c.before in
       let h = s.requires in
-      (rw (reads-back s.ranges.x, reads-back s.ranges.curve, reads-back (rest-of-x-fits h), reads-back (x-product-fits h), reads-back (x-curve-fits h), reads-back (raised-fits h), pos-nat_abs (product +ℤ pos 4503599627370496) (yes_non_neg (raised-not-negative h.0 h.1))) at c.round-natural.ensures)
-      ∙ r-shifted product (pos 524288) (lt_z_yes tt)
+      (rw (reads_back s.ranges.x, reads_back s.ranges.curve, reads_back (rest_of_x_fits h), reads_back (x_product_fits h), reads_back (x_curve_fits h), reads_back (raised_fits h), pos-nat_abs (product +ℤ pos 4503599627370496) (yes_non_neg (raised_not_negative h.0 h.1))) at c.round-natural.ensures)
+      ∙ r_shifted product (pos 524288) (lt_z_yes tt)
 
   result_fits : SFits w64 (pos c.round-natural.result)
-  result_fits = rw raised-bend-is (raised-bend-fits c.before.requires)
+  result_fits = rw raised_bend_is (raised_bend_fits c.before.requires)
 
-cast-result : tie.Need-overflow-cast-result
-cast-result c = result_fits c
+cast_result : tie.Need-overflow-cast-result
+cast_result c = result_fits c
 
 returns : tie.Need-returns
-returns c = rw (natural-reads-back c.round-natural.result (result_fits c).sfits) (raised-bend-is c)
+returns c = rw (natural_reads_back c.round-natural.result (result_fits c).sfits) (raised_bend_is c)
 
-pub raised-bend-spec : {M : Type 1} → statement M
-raised-bend-spec =
+pub raised_bend_spec : {M : Type 1} → statement M
+raised_bend_spec =
     tie.close
     (tie.spec
-    sub-raised
-    mul-raised
-    mul-raised-2
-    add-raised
-    cast-round-natural
-    round-natural-requires
-    cast-result
+    sub_raised
+    mul_raised
+    mul_raised_2
+    add_raised
+    cast_round_natural
+    round_natural_requires
+    cast_result
     returns)

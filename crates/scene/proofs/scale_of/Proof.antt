@@ -9,63 +9,63 @@ use mathlib.Core.Path.{◌≡◌}
 use mir.Syntax.{w64}
 use mir.Val.{SFits}
 use Rattle.integers.specs.Rounding.{floor}
-use Rattle.integers.proofs.Linear.{order, size-parts}
-use Rattle.integers.proofs.Bounds.{bounded-size}
-use Rattle.integers.proofs.Order.{below-at-most}
-use Rattle.integers.proofs.Machine.{bounded-fits, reads-back, result-reads-back, unsigned-fits}
+use Rattle.integers.proofs.Linear.{order, size_parts}
+use Rattle.integers.proofs.Bounds.{bounded_size}
+use Rattle.integers.proofs.Order.{below_at_most}
+use Rattle.integers.proofs.Machine.{bounded_fits, reads_back, result_reads_back, unsigned_fits}
 use Rattle.scene.specs.declared.Constants.{Constants}
 use Rattle.scene.specs.Ranges.{ConstantsRange}
-use Rattle.scene.proofs.Ranges.{d-fits, tc-fits, rise-fits, tnl-fits, four-tnl-fits, start_fits, twice-d-fits, five-d-bounded, rise-bounded, rise-not-negative}
+use Rattle.scene.proofs.Ranges.{d_fits, tc_fits, rise_fits, tnl_fits, four_tnl_fits, start_fits, twice_d_fits, five_d_bounded, rise_bounded, rise_not_negative}
 use Rattle.scene.proofs.scale_of.Statement.{statement}
 use Rattle.scene.proofs.scale_of.Tie as tie
 
-rise-size : {k : Constants} → ConstantsRange k → nat_abs k.rise ≤ 1357512
-rise-size h = bounded-size (rise-bounded h)
+rise_size : {k : Constants} → ConstantsRange k → nat_abs k.rise ≤ 1357512
+rise_size h = bounded_size (rise_bounded h)
 
-cast-inverse : tie.Need-overflow-cast-inverse
-cast-inverse c = let h = c.before.before.requires in rw (reads-back (d-fits h)) (unsigned-fits (below-at-most h.d-low) (d-fits h))
+cast_inverse : tie.Need-overflow-cast-inverse
+cast_inverse c = let h = c.before.before.requires in rw (reads_back (d_fits h)) (unsigned_fits (below_at_most h.d-low) (d_fits h))
 
-div-inverse : tie.Need-nonzero-div-inverse
-div-inverse c =
+div_inverse : tie.Need-nonzero-div-inverse
+div_inverse c =
     let h = c.before.before.requires in
     let k = c.before.before.args.k in
-    rw (reads-back (d-fits h)) (omega (arith, order, size-parts k.d, h.d-low))
+    rw (reads_back (d_fits h)) (omega (arith, order, size_parts k.d, h.d-low))
 
-cast-edge : tie.Need-overflow-cast-edge
-cast-edge c = let h = c.before.before.before.before.requires in rw (reads-back (rise-fits h)) ((unsigned-fits (rise-not-negative h) (rise-fits h)).0, record { fits = omega (arith, rise-size h) })
+cast_edge : tie.Need-overflow-cast-edge
+cast_edge c = let h = c.before.before.before.before.requires in rw (reads_back (rise_fits h)) ((unsigned_fits (rise_not_negative h) (rise_fits h)).0, record { fits = omega (arith, rise_size h) })
 
-mul-edge : tie.Need-overflow-mul-edge
-mul-edge c = let h = c.before.before.before.before.requires in rw (reads-back (rise-fits h)) (record { fits = omega (arith, rise-size h) })
+mul_edge : tie.Need-overflow-mul-edge
+mul_edge c = let h = c.before.before.before.before.requires in rw (reads_back (rise_fits h)) (record { fits = omega (arith, rise_size h) })
 
-sub-edge : tie.Need-overflow-sub-edge
-sub-edge c = let h = c.before.before.before.before.requires in rw (reads-back (rise-fits h)) (omega (arith, rise-size h))
+sub_edge : tie.Need-overflow-sub-edge
+sub_edge c = let h = c.before.before.before.before.requires in rw (reads_back (rise_fits h)) (omega (arith, rise_size h))
 
-five-d-fits : {k : Constants} → ConstantsRange k → SFits w64 (pos 5 *ℤ k.d)
-five-d-fits h = bounded-fits (five-d-bounded h) (lit< tt)
+five_d_fits : {k : Constants} → ConstantsRange k → SFits w64 (pos 5 *ℤ k.d)
+five_d_fits h = bounded_fits (five_d_bounded h) (lit< tt)
 
-mul-floor-div : tie.Need-overflow-mul-floor-div
-mul-floor-div c = let h = c.before.before.before.before.before.before.requires in rw (reads-back (d-fits h)) (five-d-fits h)
+mul_floor_div : tie.Need-overflow-mul-floor-div
+mul_floor_div c = let h = c.before.before.before.before.before.before.requires in rw (reads_back (d_fits h)) (five_d_fits h)
 
-floor-div-requires : tie.Need-floor-div-requires
-floor-div-requires c κs = lt_z_yes tt
+floor_div_requires : tie.Need-floor-div-requires
+floor_div_requires c κs = lt_z_yes tt
 
-top-is : (c : tie.After-floor-div) → c.floor-div.result ≡ floor (pos 5 *ℤ c.before.before.before.before.before.before.before.args.k.d) (pos 4)
-top-is c = let h = c.before.before.before.before.before.before.before.requires in rw (reads-back (d-fits h), reads-back (five-d-fits h)) at c.floor-div.ensures
+top_is : (c : tie.After-floor-div) → c.floor-div.result ≡ floor (pos 5 *ℤ c.before.before.before.before.before.before.before.args.k.d) (pos 4)
+top_is c = let h = c.before.before.before.before.before.before.before.requires in rw (reads_back (d_fits h), reads_back (five_d_fits h)) at c.floor-div.ensures
 
-mul-curve : tie.Need-overflow-mul-curve
-mul-curve c = let h = c.before.before.before.before.before.before.before.before.before.requires in rw (reads-back (tnl-fits h)) (four-tnl-fits h)
+mul_curve : tie.Need-overflow-mul-curve
+mul_curve c = let h = c.before.before.before.before.before.before.before.before.before.requires in rw (reads_back (tnl_fits h)) (four_tnl_fits h)
 
-sub-start : tie.Need-overflow-sub-start
-sub-start c = let h = c.before.before.before.before.before.before.before.before.before.before.before.requires in rw (reads-back (tc-fits h)) (start_fits h)
+sub_start : tie.Need-overflow-sub-start
+sub_start c = let h = c.before.before.before.before.before.before.before.before.before.before.before.requires in rw (reads_back (tc_fits h)) (start_fits h)
 
-mul-twice : tie.Need-overflow-mul-twice
-mul-twice c = let h = c.before.before.before.before.before.before.before.before.before.before.before.before.before.requires in rw (reads-back (d-fits h)) (twice-d-fits h)
+mul_twice : tie.Need-overflow-mul-twice
+mul_twice c = let h = c.before.before.before.before.before.before.before.before.before.before.before.before.before.requires in rw (reads_back (d_fits h)) (twice_d_fits h)
 
 returns : tie.Need-returns
 returns c =
     let f = c.before.before.before.before.before.before in
     let h = f.before.before.before.before.before.before.before.requires in
-    rw (reads-back (d-fits h), reads-back (rise-fits h), result-reads-back f.floor-div.result f.floor-div.type-inv, top-is f, reads-back (tnl-fits h), reads-back (four-tnl-fits h), reads-back (tc-fits h), reads-back (start_fits h), reads-back (twice-d-fits h))
+    rw (reads_back (d_fits h), reads_back (rise_fits h), result_reads_back f.floor-div.result f.floor-div.type-inv, top_is f, reads_back (tnl_fits h), reads_back (four_tnl_fits h), reads_back (tc_fits h), reads_back (start_fits h), reads_back (twice_d_fits h))
 
-pub scale-of-spec : {M : Type 1} → statement M
-scale-of-spec = tie.close (tie.spec cast-inverse div-inverse cast-edge mul-edge sub-edge mul-floor-div floor-div-requires mul-curve sub-start mul-twice returns)
+pub scale_of_spec : {M : Type 1} → statement M
+scale_of_spec = tie.close (tie.spec cast_inverse div_inverse cast_edge mul_edge sub_edge mul_floor_div floor_div_requires mul_curve sub_start mul_twice returns)

@@ -10,129 +10,129 @@ use lib.Signed.{◌≤ℤ◌, lt_z}
 use mir.Syntax.{w32, w64}
 use mir.Val.{to_z, of_z}
 use borrow.Author.Rules.{rules}
-use Rattle.integers.proofs.Naturals.{natural-at-most}
-use Rattle.integers.proofs.Order.{ltZ-false, at-most-trans, at-most-fails}
-use Rattle.integers.proofs.Machine.{reads-back}
+use Rattle.integers.proofs.Naturals.{natural_at_most}
+use Rattle.integers.proofs.Order.{lt_z_false, at_most_trans, at_most_fails}
+use Rattle.integers.proofs.Machine.{reads_back}
 use Rattle.scene.specs.Scene.{numerator}
-use Rattle.scene.proofs.Ranges.{SceneRange, scene-range}
-use Rattle.scene.proofs.Numerator.{slope-count-is, slope-count-fits, n-is, n-fits, above-test}
-use Rattle.scene.proofs.BiasRange.{temperature-low, temperature-high, biased-low, biased-high}
+use Rattle.scene.proofs.Ranges.{SceneRange, scene_range}
+use Rattle.scene.proofs.Numerator.{slope_count_is, slope_count_fits, n_is, n_fits, above_test}
+use Rattle.scene.proofs.BiasRange.{temperature_low, temperature_high, biased_low, biased_high}
 use Rattle.scene.specs.Temperature.{biased}
-use Rattle.scene.specs.Steps.{c0Of, eOf}
-use Rattle.scene.proofs.Delivered.{temperatureOf, scene-negative, scene-above, scene-kelvin}
+use Rattle.scene.specs.Steps.{c0_of, e_of}
+use Rattle.scene.proofs.Delivered.{temperature_of, scene_negative, scene_above, scene_kelvin}
 use Rattle.scene.proofs.scene_of.Statement.{statement}
 use Rattle.scene.proofs.scene_of.Tie as tie
 
 -- what is delivered, by the two numbers
 abbrev deliver : tie.Start → ℤ → ℤ
-deliver s = biased (c0Of s.args.offset) (eOf s.args.factor)
+deliver s = biased (c0_of s.args.offset) (e_of s.args.factor)
 
-count-high : (s : tie.Start) → s.args.count ≤ 65535
-count-high s = omega arith
+count_high : (s : tie.Start) → s.args.count ≤ 65535
+count_high s = omega arith
 
-cast-n : tie.Need-overflow-cast-n
-cast-n c = search rules
+cast_n : tie.Need-overflow-cast-n
+cast_n c = search rules
 
-mul-n : tie.Need-overflow-mul-n
-mul-n c = let s = c.before.before in rw (slope-count-is s.requires.0 (count-high s)) (slope-count-fits s.requires.0 (count-high s))
+mul_n : tie.Need-overflow-mul-n
+mul_n c = let s = c.before.before in rw (slope_count_is s.requires.0 (count_high s)) (slope_count_fits s.requires.0 (count_high s))
 
-sub-n : tie.Need-overflow-sub-n
-sub-n c = let s = c.before.before.before.before in rw (n-is s.requires.0 (count-high s)) (n-fits s.requires.0 (count-high s))
+sub_n : tie.Need-overflow-sub-n
+sub_n c = let s = c.before.before.before.before in rw (n_is s.requires.0 (count_high s)) (n_fits s.requires.0 (count_high s))
 
 returns : tie.Need-returns
 returns c =
     let s = c.before.before.before.before.before in
-    scene-negative (deliver s) s.args.k s.args.count (rw (n-is s.requires.0 (count-high s), reads-back (n-fits s.requires.0 (count-high s))) at c.if1.true)
+    scene_negative (deliver s) s.args.k s.args.count (rw (n_is s.requires.0 (count_high s), reads_back (n_fits s.requires.0 (count_high s))) at c.if1.true)
 
-n-not-negative : (c : tie.Else1) → lt_z (numerator c.before.before.before.before.before.args.k c.before.before.before.before.before.args.count) (pos 0) ≡ false
-n-not-negative c =
+n_not_negative : (c : tie.Else1) → lt_z (numerator c.before.before.before.before.before.args.k c.before.before.before.before.before.args.count) (pos 0) ≡ false
+n_not_negative c =
     let s = c.before.before.before.before.before in
-    rw (n-is s.requires.0 (count-high s), reads-back (n-fits s.requires.0 (count-high s))) at c.if1.false
+    rw (n_is s.requires.0 (count_high s), reads_back (n_fits s.requires.0 (count_high s))) at c.if1.false
 
-returns-2 : tie.Need-returns-2
-returns-2 c =
+returns_2 : tie.Need-returns-2
+returns_2 c =
     let s = c.before.before.before.before.before.before.before.before in
-    scene-above (deliver s) s.args.k s.args.count (n-not-negative c.before.before.before) (above-test s.requires.0 (count-high s) s.args.scale s.requires.1 true c.if2.true)
+    scene_above (deliver s) s.args.k s.args.count (n_not_negative c.before.before.before) (above_test s.requires.0 (count_high s) s.args.scale s.requires.1 true c.if2.true)
 
 module _ (c : tie.Else2) where
   abbrev start : tie.Start
   start = c.before.before.before.before.before.before.before.before
 
-  n-low : lt_z (numerator start.args.k start.args.count) (pos 0) ≡ false
-  n-low = n-not-negative c.before.before.before
+  n_low : lt_z (numerator start.args.k start.args.count) (pos 0) ≡ false
+  n_low = n_not_negative c.before.before.before
 
-  n-high : lt_z (pos 5 *ℤ start.args.k.d) (pos 4 *ℤ numerator start.args.k start.args.count) ≡ false
-  n-high = above-test start.pre.0 (count-high start) start.args.scale start.pre.1 false c.if2.false
+  n_high : lt_z (pos 5 *ℤ start.args.k.d) (pos 4 *ℤ numerator start.args.k start.args.count) ≡ false
+  n_high = above_test start.pre.0 (count_high start) start.args.scale start.pre.1 false c.if2.false
 
-units-requires : tie.Need-units-requires
-units-requires c κs =
+units_requires : tie.Need-units-requires
+units_requires c κs =
     let h = (start c).requires.0 in
-    let m = count-high (start c) in
-    rw (n-is h m, reads-back (n-fits h m)) (h, (start c).requires.1, ltZ-false (n-low c), ltZ-false (n-high c))
+    let m = count_high (start c) in
+    rw (n_is h m, reads_back (n_fits h m)) (h, (start c).requires.1, lt_z_false (n_low c), lt_z_false (n_high c))
 
-t-is : (c : tie.After-units) → c.units.result ≡ temperatureOf (start c.before).args.k (start c.before).args.count
-t-is c =
+t_is : (c : tie.After-units) → c.units.result ≡ temperature_of (start c.before).args.k (start c.before).args.count
+t_is c =
     let h = (start c.before).pre.0 in
-    let m = count-high (start c.before) in
-    rw (n-is h m, reads-back (n-fits h m)) at c.units.ensures
+    let m = count_high (start c.before) in
+    rw (n_is h m, reads_back (n_fits h m)) at c.units.ensures
 
-t-reads-back : (c : tie.After-units) → to_z w64 (of_z w64 c.units.result) ≡ c.units.result
-t-reads-back c = reads-back (record { sfits = c.units.type-inv })
+t_reads_back : (c : tie.After-units) → to_z w64 (of_z w64 c.units.result) ≡ c.units.result
+t_reads_back c = reads_back (record { sfits = c.units.type-inv })
 
 module _ (c : tie.After-units) where
   abbrev begin : tie.Start
   begin = start c.before
 
   abbrev t : ℤ
-  t = temperatureOf begin.args.k begin.args.count
+  t = temperature_of begin.args.k begin.args.count
 
   in-range : SceneRange begin.args.k.tc begin.args.k.rise begin.args.k.tnl begin.args.k.d (numerator begin.args.k begin.args.count)
-  in-range = scene-range begin.pre.0 (ltZ-false (n-low c.before)) (ltZ-false (n-high c.before))
+  in-range = scene_range begin.pre.0 (lt_z_false (n_low c.before)) (lt_z_false (n_high c.before))
 
   -- the guard cannot fail
-  t-above-guard : pos 1 ≤ℤ t
-  t-above-guard = at-most-trans (natural-at-most (omega arith)) (temperature-low in-range)
+  t_above_guard : pos 1 ≤ℤ t
+  t_above_guard = at_most_trans (natural_at_most (omega arith)) (temperature_low in-range)
 
-  t-below-guard : t ≤ℤ pos 16777215
-  t-below-guard = at-most-trans (temperature-high in-range) (natural-at-most (omega arith))
+  t_below_guard : t ≤ℤ pos 16777215
+  t_below_guard = at_most_trans (temperature_high in-range) (natural_at_most (omega arith))
 
-biased-units-requires : tie.Need-biased-units-requires
-biased-units-requires c κs = rw (t-reads-back c, t-is c) (temperature-low (in-range c), temperature-high (in-range c), (begin c).requires.2)
+biased_units_requires : tie.Need-biased-units-requires
+biased_units_requires c κs = rw (t_reads_back c, t_is c) (temperature_low (in-range c), temperature_high (in-range c), (begin c).requires.2)
 
 module _ (c : tie.After-biased-units) where
   abbrev delivered : ℤ
   delivered = deliver (begin c.before) (t c.before)
 
-  delivered-is : to_z w32 (of_z w32 c.biased-units.result) ≡ delivered
-  delivered-is = reads-back (record { sfits = c.biased-units.type-inv }) ∙ rw (t-reads-back c.before, t-is c.before) at c.biased-units.ensures
+  delivered_is : to_z w32 (of_z w32 c.biased-units.result) ≡ delivered
+  delivered_is = reads_back (record { sfits = c.biased-units.type-inv }) ∙ rw (t_reads_back c.before, t_is c.before) at c.biased-units.ensures
 
-  delivered-from : pos 1 ≤ℤ delivered
-  delivered-from = let u = c.before in biased-low (begin u).requires.2.c0 (begin u).requires.2.e (temperature-low (in-range u)) (temperature-high (in-range u))
+  delivered_from : pos 1 ≤ℤ delivered
+  delivered_from = let u = c.before in biased_low (begin u).requires.2.c0 (begin u).requires.2.e (temperature_low (in-range u)) (temperature_high (in-range u))
 
-  delivered-to : delivered ≤ℤ pos 16777215
-  delivered-to = let u = c.before in biased-high (begin u).requires.2.c0 (begin u).requires.2.e (temperature-low (in-range u)) (temperature-high (in-range u))
+  delivered_to : delivered ≤ℤ pos 16777215
+  delivered_to = let u = c.before in biased_high (begin u).requires.2.c0 (begin u).requires.2.e (temperature_low (in-range u)) (temperature_high (in-range u))
 
-kelvin-of-requires : tie.Need-kelvin-of-requires
-kelvin-of-requires c κs = rw (delivered-is c) (delivered-from c, delivered-to c)
+kelvin_of_requires : tie.Need-kelvin-of-requires
+kelvin_of_requires c κs = rw (delivered_is c) (delivered_from c, delivered_to c)
 
-returns-3 : tie.Need-returns-3
-returns-3 c =
+returns_3 : tie.Need-returns-3
+returns_3 c =
     let d = c.before in
     let u = d.before in
     let s = begin u in
-    rw (c.kelvin-of.ensures, delivered-is d)
-    (scene-kelvin (deliver s) s.args.k s.args.count (n-low u.before) (n-high u.before) (at-most-fails (t-above-guard u)) (at-most-fails (t-below-guard u)))
+    rw (c.kelvin-of.ensures, delivered_is d)
+    (scene_kelvin (deliver s) s.args.k s.args.count (n_low u.before) (n_high u.before) (at_most_fails (t_above_guard u)) (at_most_fails (t_below_guard u)))
 
-pub scene-of-spec : {M : Type 1} → statement M
-scene-of-spec =
+pub scene_of_spec : {M : Type 1} → statement M
+scene_of_spec =
     tie.close
     (tie.spec
-    cast-n
-    mul-n
-    sub-n
+    cast_n
+    mul_n
+    sub_n
     returns
-    returns-2
-    units-requires
-    biased-units-requires
-    kelvin-of-requires
-    returns-3)
+    returns_2
+    units_requires
+    biased_units_requires
+    kelvin_of_requires
+    returns_3)

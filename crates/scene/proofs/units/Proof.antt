@@ -11,80 +11,80 @@ use mir.Syntax.{w64}
 use mir.Val.{to_z}
 use borrow.Author.Rules.{rules}
 use Rattle.integers.specs.Rounding.{r}
-use Rattle.integers.proofs.Bounds.{bounded-size}
-use Rattle.integers.proofs.Machine.{reads-back, natural-reads-back, unsigned-fits}
+use Rattle.integers.proofs.Bounds.{bounded_size}
+use Rattle.integers.proofs.Machine.{reads_back, natural_reads_back, unsigned_fits}
 use Rattle.scene.specs.declared.Constants.{Constants}
 use Rattle.scene.specs.Temperature.{X, temperature}
 use Rattle.scene.specs.Ranges.{ConstantsRange}
-use Rattle.scene.specs.Steps.{scale_of, Bracket, unsureOf}
-use Rattle.scene.proofs.Ranges.{rise-bounded, rise-not-negative, rise-fits, x-bounded, linear-bounded, start-bounded, four-tnl-bounded, start-reads-back, curve-reads-back, units-from-start}
-use Rattle.scene.proofs.Bracket.{low-end-small, linear-nearest, x-nearest, Sure, sure-by}
+use Rattle.scene.specs.Steps.{scale_of, Bracket, unsure_of}
+use Rattle.scene.proofs.Ranges.{rise_bounded, rise_not_negative, rise_fits, x_bounded, linear_bounded, start_bounded, four_tnl_bounded, start_reads_back, curve_reads_back, units_from_start}
+use Rattle.scene.proofs.Bracket.{low_end_small, linear_nearest, x_nearest, Sure, sure_by}
 use Rattle.scene.proofs.units.Statement.{statement}
 use Rattle.scene.proofs.units.Tie as tie
 
 -- ---- the two numbers that are rounded, by the low end w
-abbrev xAt : ℕ → ℕ
-xAt w = w + 32767
+abbrev x_at : ℕ → ℕ
+x_at w = w + 32767
 
-abbrev linearAt : Constants → ℕ → ℕ
-linearAt k w = w * nat_abs k.rise + 2147483647
+abbrev linear_at : Constants → ℕ → ℕ
+linear_at k w = w * nat_abs k.rise + 2147483647
 
 module _ {k : Constants} {n : ℤ} {w : ℕ} (h : ConstantsRange k) (high : (pos 4 *ℤ n) ≤ℤ (pos 5 *ℤ k.d)) (e : Bracket n k.d w) where
-  low-end-at-most : w ≤ 5368709120
-  low-end-at-most = low-end-small h.d-low high e
+  low_end_at_most : w ≤ 5368709120
+  low_end_at_most = low_end_small h.d-low high e
 
-  product-at-most : w * nat_abs k.rise ≤ 7288087054909440
-  product-at-most = mul-le-mul low-end-at-most (bounded-size (rise-bounded h))
+  product_at_most : w * nat_abs k.rise ≤ 7288087054909440
+  product_at_most = mul-le-mul low_end_at_most (bounded_size (rise_bounded h))
 
-  module _ (s : Sure (xAt w) (linearAt k w) (scale_of k).edge) where
-    x-reads-back : to_z w64 (xAt w / 65536) ≡ X n k.d
-    x-reads-back = natural-reads-back (xAt w / 65536) (omega (arith, low-end-at-most)) ∙ x-nearest h.d-low e s.of-x
+  module _ (s : Sure (x_at w) (linear_at k w) (scale_of k).edge) where
+    x_reads_back : to_z w64 (x_at w / 65536) ≡ X n k.d
+    x_reads_back = natural_reads_back (x_at w / 65536) (omega (arith, low_end_at_most)) ∙ x_nearest h.d-low e s.of_x
 
-    linear-reads-back : to_z w64 (linearAt k w / 4294967296) ≡ r (n *ℤ k.rise) k.d
-    linear-reads-back =
-        natural-reads-back (linearAt k w / 4294967296) (omega (arith, product-at-most))
-        ∙ linear-nearest h.d-low e (nat_abs k.rise) (omega (arith, s.of-linear, bounded-size (rise-bounded h)))
-        ∙ ap (λ z. r (n *ℤ z) k.d) (pos-nat_abs k.rise (yes_non_neg (rise-not-negative h)))
+    linear_reads_back : to_z w64 (linear_at k w / 4294967296) ≡ r (n *ℤ k.rise) k.d
+    linear_reads_back =
+        natural_reads_back (linear_at k w / 4294967296) (omega (arith, product_at_most))
+        ∙ linear_nearest h.d-low e (nat_abs k.rise) (omega (arith, s.of-linear, bounded_size (rise_bounded h)))
+        ∙ ap (λ z. r (n *ℤ z) k.d) (pos-nat_abs k.rise (yes_non_neg (rise_not_negative h)))
 
-low-end-requires : tie.Need-low-end-requires
-low-end-requires c κs =
+low_end_requires : tie.Need-low-end-requires
+low_end_requires c κs =
     let h = c.requires in
-    rw (reads-back c.ranges.n) (h.0, ap (λ s. s.inverse) h.1, h.2, h.3)
+    rw (reads_back c.ranges.n) (h.0, ap (λ s. s.inverse) h.1, h.2, h.3)
 
 bracketed : (l : tie.After-low-end) → Bracket l.before.args.n l.before.args.k.d l.low-end.result
-bracketed l = rw (reads-back l.before.ranges.n) at l.low-end.ensures
+bracketed l = rw (reads_back l.before.ranges.n) at l.low-end.ensures
 
-add-x : tie.Need-overflow-add-x
-add-x c = let h = c.before.requires in record { fits = omega (arith, low-end-at-most h.0 h.3 (bracketed c)) }
+add_x : tie.Need-overflow-add-x
+add_x c = let h = c.before.requires in record { fits = omega (arith, low_end_at_most h.0 h.3 (bracketed c)) }
 
-cast-linear : tie.Need-overflow-cast-linear
-cast-linear c =
+cast_linear : tie.Need-overflow-cast-linear
+cast_linear c =
     let h = c.before.before.before.requires in
-    rw (reads-back (rise-fits h.0)) (unsigned-fits (rise-not-negative h.0) (rise-fits h.0))
+    rw (reads_back (rise_fits h.0)) (unsigned_fits (rise_not_negative h.0) (rise_fits h.0))
 
-mul-linear : tie.Need-overflow-mul-linear
-mul-linear c =
+mul_linear : tie.Need-overflow-mul-linear
+mul_linear c =
     let l = c.before.before in
     let h = l.before.requires in
-    rw (reads-back (rise-fits h.0)) (record { fits = lt_of_le_of_lt (product-at-most h.0 h.3 (bracketed l)) (lit< tt) })
+    rw (reads_back (rise_fits h.0)) (record { fits = lt_of_le_of_lt (product_at_most h.0 h.3 (bracketed l)) (lit< tt) })
 
-add-linear : tie.Need-overflow-add-linear
-add-linear c =
+add_linear : tie.Need-overflow-add-linear
+add_linear c =
     let l = c.before.before in
     let h = l.before.requires in
-    rw (reads-back (rise-fits h.0)) (record { fits = omega (arith, product-at-most h.0 h.3 (bracketed l)) })
+    rw (reads_back (rise_fits h.0)) (record { fits = omega (arith, product_at_most h.0 h.3 (bracketed l)) })
 
-unsure-requires : tie.Need-unsure-requires
-unsure-requires c κs = search rules
+unsure_requires : tie.Need-unsure-requires
+unsure_requires c κs = search rules
 
 -- ---- unsure
-divided-units-requires : tie.Need-divided-units-requires
-divided-units-requires c κs = let s = c.before.before.before.before.before in rw (reads-back s.ranges.n) s.requires
+divided_units_requires : tie.Need-divided-units-requires
+divided_units_requires c κs = let s = c.before.before.before.before.before in rw (reads_back s.ranges.n) s.requires
 
 returns : tie.Need-returns
 returns c =
     let s = c.before.before.before.before.before.before in
-    reads-back (record { sfits = c.divided-units.type-inv }) ∙ rw (reads-back s.ranges.n) at c.divided-units.ensures
+    reads_back (record { sfits = c.divided-units.type-inv }) ∙ rw (reads_back s.ranges.n) at c.divided-units.ensures
 
 -- ---- sure
 module _ (c : tie.Else1) where
@@ -97,54 +97,54 @@ module _ (c : tie.Else1) where
   abbrev end : ℕ
   end = low.low-end.result
 
-  sure : Sure (xAt end) (linearAt start.args.k end) (scale_of start.args.k).edge
+  sure : Sure (x_at end) (linear_at start.args.k end) (scale_of start.args.k).edge
   sure =
-      let is : c.before.unsure.result ≡ unsureOf (xAt end) (linearAt start.args.k end) start.args.scale.edge = rw (reads-back (rise-fits start.pre.0)) at c.before.unsure.ensures in
-      sure-by (xAt end) (linearAt start.args.k end) (scale_of start.args.k).edge
-      (ap (λ s. unsureOf (xAt end) (linearAt start.args.k end) s.edge) (sym start.pre.1) ∙ sym is ∙ c.if1.false)
+      let is : c.before.unsure.result ≡ unsure_of (x_at end) (linear_at start.args.k end) start.args.scale.edge = rw (reads_back (rise_fits start.pre.0)) at c.before.unsure.ensures in
+      sure_by (x_at end) (linear_at start.args.k end) (scale_of start.args.k).edge
+      (ap (λ s. unsure_of (x_at end) (linear_at start.args.k end) s.edge) (sym start.pre.1) ∙ sym is ∙ c.if1.false)
 
-  found-x : to_z w64 (xAt end / 65536) ≡ X start.args.n start.args.k.d
-  found-x = let h = start.pre in x-reads-back h.0 h.3 (bracketed low) sure
+  found_x : to_z w64 (x_at end / 65536) ≡ X start.args.n start.args.k.d
+  found_x = let h = start.pre in x_reads_back h.0 h.3 (bracketed low) sure
 
-  found-linear : to_z w64 (linearAt start.args.k end / 4294967296) ≡ r (start.args.n *ℤ start.args.k.rise) start.args.k.d
-  found-linear = let h = start.pre in linear-reads-back h.0 h.3 (bracketed low) sure
+  found_linear : to_z w64 (linear_at start.args.k end / 4294967296) ≡ r (start.args.n *ℤ start.args.k.rise) start.args.k.d
+  found_linear = let h = start.pre in linear_reads_back h.0 h.3 (bracketed low) sure
 
-cast-units-of : tie.Need-overflow-cast-units-of
-cast-units-of c = search rules
+cast_units_of : tie.Need-overflow-cast-units-of
+cast_units_of c = search rules
 
-cast-units-of-2 : tie.Need-overflow-cast-units-of-2
-cast-units-of-2 c = let h = (start c).requires in rw (reads-back (rise-fits h.0)) (record { sfits = omega (arith, product-at-most h.0 h.3 (bracketed (low c))) })
+cast_units_of_2 : tie.Need-overflow-cast-units-of-2
+cast_units_of_2 c = let h = (start c).requires in rw (reads_back (rise_fits h.0)) (record { sfits = omega (arith, product_at_most h.0 h.3 (bracketed (low c))) })
 
-units-of-requires : tie.Need-units-of-requires
-units-of-requires c κs =
+units_of_requires : tie.Need-units-of-requires
+units_of_requires c κs =
     let e = c.before.before in
     let h = (start e).requires in
-    rw (start-reads-back h.0 h.1, curve-reads-back h.0 h.1, reads-back (rise-fits h.0), found-x e, found-linear e)
-    (start-bounded h.0, four-tnl-bounded h.0.tnl, x-bounded h.0 h.2 h.3, linear-bounded h.0 h.2 h.3)
+    rw (start_reads_back h.0 h.1, curve_reads_back h.0 h.1, reads_back (rise_fits h.0), found_x e, found_linear e)
+    (start_bounded h.0, four_tnl_bounded h.0.tnl, x_bounded h.0 h.2 h.3, linear_bounded h.0 h.2 h.3)
 
-returns-2 : tie.Need-returns-2
+returns_2 : tie.Need-returns-2
 unfolding temperature
-returns-2 c =
+returns_2 c =
     let e = c.before.before.before in
     let s = start e in
     let h = s.pre in
-    reads-back (record { sfits = c.units_of.type-inv })
-    ∙ (rw (start-reads-back h.0 h.1, curve-reads-back h.0 h.1, reads-back (rise-fits h.0), found-x e, found-linear e) at c.units_of.ensures)
-    ∙ units-from-start s.args.k.tc (r (s.args.n *ℤ s.args.k.rise) s.args.k.d) (X s.args.n s.args.k.d) s.args.k.tnl
+    reads_back (record { sfits = c.units_of.type-inv })
+    ∙ (rw (start_reads_back h.0 h.1, curve_reads_back h.0 h.1, reads_back (rise_fits h.0), found_x e, found_linear e) at c.units_of.ensures)
+    ∙ units_from_start s.args.k.tc (r (s.args.n *ℤ s.args.k.rise) s.args.k.d) (X s.args.n s.args.k.d) s.args.k.tnl
 
-pub units-spec : {M : Type 1} → statement M
-units-spec =
+pub units_spec : {M : Type 1} → statement M
+units_spec =
     tie.close
     (tie.spec
-    low-end-requires
-    add-x
-    cast-linear
-    mul-linear
-    add-linear
-    unsure-requires
-    divided-units-requires
+    low_end_requires
+    add_x
+    cast_linear
+    mul_linear
+    add_linear
+    unsure_requires
+    divided_units_requires
     returns
-    cast-units-of
-    cast-units-of-2
-    units-of-requires
-    returns-2)
+    cast_units_of
+    cast_units_of_2
+    units_of_requires
+    returns_2)

@@ -7,11 +7,11 @@ use Rattle.scene.proofs.unsure.Tie as tie
 returns : tie.Need-returns
 returns c = simp (lt-ltb _ _ c.if1.true)
 
-cast-result : tie.Need-overflow-cast-result
-cast-result c = search rules
+cast_result : tie.Need-overflow-cast-result
+cast_result c = search rules
 
-returns-2 : tie.Need-returns-2
-returns-2 c = simp (le-ltb _ _ c.if1.false)
+returns_2 : tie.Need-returns-2
+returns_2 c = simp (le-ltb _ _ c.if1.false)
 
-pub unsure-spec : {M : Type 1} → statement M
-unsure-spec = tie.close (tie.spec returns cast-result returns-2)
+pub unsure_spec : {M : Type 1} → statement M
+unsure_spec = tie.close (tie.spec returns cast_result returns_2)

@@ -1,24 +1,24 @@
 -- `bytes_at` meets its contract: the copy of a part that is as long as `out` is the part.
 use lib.ListN.{length, take, drop}
 use borrow.Author.Rules.{rules}
-use Rattle.lists.proofs.Put.{part-is-take, length_part, copied-whole}
+use Rattle.lists.proofs.Put.{part_is_take, length_part, copied_whole}
 use Rattle.state.proofs.bytes_at.Statement.{statement}
 use Rattle.state.proofs.bytes_at.Tie as tie
 
-add-end : tie.Need-overflow-add-end
-add-end c = search rules
+add_end : tie.Need-overflow-add-end
+add_end c = search rules
 
-sub-copy : tie.Need-overflow-sub-copy
-sub-copy c = search rules
+sub_copy : tie.Need-overflow-sub-copy
+sub_copy c = search rules
 
-part-copy-start : tie.Need-slice-bounds-copy-start
-part-copy-start c = search rules
+part_copy_start : tie.Need-slice-bounds-copy-start
+part_copy_start c = search rules
 
-part-copy-end : tie.Need-slice-bounds-copy-end
-part-copy-end c = search rules
+part_copy_end : tie.Need-slice-bounds-copy-end
+part_copy_end c = search rules
 
-copy-requires : tie.Need-copy-requires
-copy-requires c κs = search rules
+copy_requires : tie.Need-copy-requires
+copy_requires c κs = search rules
 
 same_length : tie.Need-same-length
 same_length c = search rules
@@ -29,9 +29,9 @@ returns c =
     let start = copy.before.before.before.before.before in
     let state = start.args.state.now in
     let n = length start.args.out.now in
-    copied-whole (take n (drop start.args.at state)) start.args.out.now _ (length_part state start.args.at n start.requires) (rw (part-is-take state start.args.at n) at copy.copy.ensures.1)
+    copied_whole (take n (drop start.args.at state)) start.args.out.now _ (length_part state start.args.at n start.requires) (rw (part_is_take state start.args.at n) at copy.copy.ensures.1)
 
-pub bytes-at-spec : {M : Type 1} → statement M
-bytes-at-spec =
+pub bytes_at_spec : {M : Type 1} → statement M
+bytes_at_spec =
     tie.close
-    (tie.spec add-end sub-copy part-copy-start part-copy-end copy-requires same_length returns)
+    (tie.spec add_end sub_copy part_copy_start part_copy_end copy_requires same_length returns)

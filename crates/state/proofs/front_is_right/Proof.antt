@@ -1,59 +1,59 @@
 -- `front_is_right` meets its contract: each answer in the list is its test of the state.
 use mathlib.Core.Path.{refl, ap, ◌∙◌}
-use Rattle.fields.specs.Fields.{layoutIsRight, layoutSize}
-use Rattle.state.specs.State.{frontIsRight}
-use Rattle.state.proofs.FrontLaws.{lent-layout}
+use Rattle.fields.specs.Fields.{layout_is_right, layout_size}
+use Rattle.state.specs.State.{front_is_right}
+use Rattle.state.proofs.FrontLaws.{lent_layout}
 use borrow.Author.Rules.{rules}
 use Rattle.state.proofs.front_is_right.Statement.{statement}
 use Rattle.state.proofs.front_is_right.Tie as tie
 
-slice-aggregate-layout-is-right : tie.Need-slice-aggregate-layout-is-right
-slice-aggregate-layout-is-right c = search rules
+slice_aggregate_layout_is_right : tie.Need-slice-aggregate-layout-is-right
+slice_aggregate_layout_is_right c = search rules
 
-slice-aggregate-layout-is-right-2 : tie.Need-slice-aggregate-layout-is-right-2
-slice-aggregate-layout-is-right-2 c = search rules
+slice_aggregate_layout_is_right_2 : tie.Need-slice-aggregate-layout-is-right-2
+slice_aggregate_layout_is_right_2 c = search rules
 
-layout-is-right-requires : tie.Need-layout-is-right-requires
-layout-is-right-requires c κs = (refl, rw (ap layoutSize lent-layout) c.before.before.before.requires)
+layout_is_right_requires : tie.Need-layout-is-right-requires
+layout_is_right_requires c κs = (refl, rw (ap layout_size lent_layout) c.before.before.before.requires)
 
-u32-at-requires : tie.Need-u32-at-requires
-u32-at-requires c κs = search rules
+u32_at_requires : tie.Need-u32-at-requires
+u32_at_requires c κs = search rules
 
-add-u32-at : tie.Need-overflow-add-u32-at
-add-u32-at c = search rules
+add_u32_at : tie.Need-overflow-add-u32-at
+add_u32_at c = search rules
 
-u32-at-requires-2 : tie.Need-u32-at-requires-2
-u32-at-requires-2 c κs = search rules
+u32_at_requires_2 : tie.Need-u32-at-requires-2
+u32_at_requires_2 c κs = search rules
 
-shared-slice-read-t16 : tie.Need-shared-slice-read-t16
-shared-slice-read-t16 c = search rules
+shared_slice_read_t16 : tie.Need-shared-slice-read-t16
+shared_slice_read_t16 c = search rules
 
-slice-aggregate-all-hold : tie.Need-slice-aggregate-all-hold
-slice-aggregate-all-hold c = search rules
+slice_aggregate_all_hold : tie.Need-slice-aggregate-all-hold
+slice_aggregate_all_hold c = search rules
 
-all-hold-requires : tie.Need-all-hold-requires
-all-hold-requires c κs = search rules
+all_hold_requires : tie.Need-all-hold-requires
+all_hold_requires c κs = search rules
 
 returns : tie.Need-returns
-unfolding frontIsRight
+unfolding front_is_right
 returns c =
     let version = c.before.before.before in
     let magic = version.before in
     let l = magic.before in
     let state = l.before.before.before.before.args.state.now in
-    c.all_hold.ensures ∙ rw (l.layout-is-right.ensures ∙ ap (layoutIsRight state 0) lent-layout, magic.u32-at.ensures, version.u32-at2.ensures)
+    c.all_hold.ensures ∙ rw (l.layout-is-right.ensures ∙ ap (layout_is_right state 0) lent_layout, magic.u32-at.ensures, version.u32-at2.ensures)
 
-pub front-is-right-spec : {M : Type 1} → statement M
-front-is-right-spec =
+pub front_is_right_spec : {M : Type 1} → statement M
+front_is_right_spec =
     tie.close
     (tie.spec
-    slice-aggregate-layout-is-right
-    slice-aggregate-layout-is-right-2
-    layout-is-right-requires
-    u32-at-requires
-    add-u32-at
-    u32-at-requires-2
-    shared-slice-read-t16
-    slice-aggregate-all-hold
-    all-hold-requires
+    slice_aggregate_layout_is_right
+    slice_aggregate_layout_is_right_2
+    layout_is_right_requires
+    u32_at_requires
+    add_u32_at
+    u32_at_requires_2
+    shared_slice_read_t16
+    slice_aggregate_all_hold
+    all_hold_requires
     returns)

@@ -2,30 +2,30 @@
 use Prim.Native.Nat.{ℕ}
 use mathlib.Core.Path.{ap, ◌∙◌}
 use mathlib.Core.List.{◌∷◌}
-use Rattle.fields.specs.Numbers.{u32Bytes}
+use Rattle.fields.specs.Numbers.{u32_bytes}
 use borrow.Author.Rules.{rules}
 use Rattle.state.proofs.last_bytes.Statement.{statement}
 use Rattle.state.proofs.last_bytes.Tie as tie
 
-byte-of-requires : tie.Need-byte-of-requires
-byte-of-requires c κs = search rules
+byte_of_requires : tie.Need-byte-of-requires
+byte_of_requires c κs = search rules
 
-array-write-bytes : tie.Need-array-write-bytes
-array-write-bytes c = search rules
+array_write_bytes : tie.Need-array-write-bytes
+array_write_bytes c = search rules
 
-slice-aggregate-put-u32 : tie.Need-slice-aggregate-put-u32
-slice-aggregate-put-u32 c = search rules
+slice_aggregate_put_u32 : tie.Need-slice-aggregate-put-u32
+slice_aggregate_put_u32 c = search rules
 
-put-u32-requires : tie.Need-put-u32-requires
-put-u32-requires c κs = search rules
+put_u32_requires : tie.Need-put-u32-requires
+put_u32_requires c κs = search rules
 
 returns : tie.Need-returns
 returns c =
     let w = c.before in
     let b = w.before.before in
-    w.put-u32.ensures ∙ ap (λ (byte : ℕ). byte ∷ u32Bytes b.before.args.last) b.byte_of.ensures
+    w.put-u32.ensures ∙ ap (λ (byte : ℕ). byte ∷ u32_bytes b.before.args.last) b.byte_of.ensures
 
-pub last-bytes-spec : {M : Type 1} → statement M
-last-bytes-spec =
+pub last_bytes_spec : {M : Type 1} → statement M
+last_bytes_spec =
     tie.close
-    (tie.spec byte-of-requires array-write-bytes slice-aggregate-put-u32 put-u32-requires returns)
+    (tie.spec byte_of_requires array_write_bytes slice_aggregate_put_u32 put_u32_requires returns)

@@ -5,8 +5,8 @@ use Rattle.state.proofs.last_inside.Tie as tie
 returns : tie.Need-returns
 returns c = rw c.if1.true
 
-returns-2 : tie.Need-returns-2
-returns-2 c = rw c.if1.false
+returns_2 : tie.Need-returns-2
+returns_2 c = rw c.if1.false
 
-pub last-inside-spec : {M : Type 1} → statement M
-last-inside-spec = tie.close (tie.spec returns returns-2)
+pub last_inside_spec : {M : Type 1} → statement M
+last_inside_spec = tie.close (tie.spec returns returns_2)

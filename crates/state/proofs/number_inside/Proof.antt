@@ -7,16 +7,16 @@ use Rattle.state.proofs.number_inside.Tie as tie
 returns : tie.Need-returns
 returns c = rw (eq-eqb c.before.args.number 0 c.if1.true)
 
-returns-2 : tie.Need-returns-2
-returns-2 c = rw (ne_eqb c.before.before.args.number 0 c.before.if1.false, not-true c.before.before.args.reached c.if2.true)
+returns_2 : tie.Need-returns-2
+returns_2 c = rw (ne_eqb c.before.before.args.number 0 c.before.if1.false, not-true c.before.before.args.reached c.if2.true)
 
-from-to-requires : tie.Need-from-to-requires
-from-to-requires c κs = search rules
+from_to_requires : tie.Need-from-to-requires
+from_to_requires c κs = search rules
 
-returns-3 : tie.Need-returns-3
-returns-3 c =
+returns_3 : tie.Need-returns-3
+returns_3 c =
     let a = c.before.before.before.args in
     rw (ne_eqb a.number 0 c.before.before.if1.false, not-false a.reached c.before.if2.false) c.from-to.ensures
 
-pub number-inside-spec : {M : Type 1} → statement M
-number-inside-spec = tie.close (tie.spec returns returns-2 from-to-requires returns-3)
+pub number_inside_spec : {M : Type 1} → statement M
+number_inside_spec = tie.close (tie.spec returns returns_2 from_to_requires returns_3)

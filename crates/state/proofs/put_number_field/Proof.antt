@@ -1,26 +1,26 @@
 -- `put_number_field` meets its contract: the head, and right behind it the numbers.
 use native.Mathlib.Omega.{arith}
-use Rattle.state.specs.State.{numberBytes}
-use Rattle.state.proofs.NumberLaws.{length-number-bytes}
-use Rattle.state.proofs.PutLaws.{value-put}
+use Rattle.state.specs.State.{number_bytes}
+use Rattle.state.proofs.NumberLaws.{length_number_bytes}
+use Rattle.state.proofs.PutLaws.{value_put}
 use borrow.Author.Rules.{rules}
 use Rattle.state.proofs.put_number_field.Statement.{statement}
 use Rattle.state.proofs.put_number_field.Tie as tie
 
-mul-put-head : tie.Need-overflow-mul-put-head
-mul-put-head c = search rules
+mul_put_head : tie.Need-overflow-mul-put-head
+mul_put_head c = search rules
 
-cast-put-head : tie.Need-overflow-cast-put-head
-cast-put-head c = search rules
+cast_put_head : tie.Need-overflow-cast-put-head
+cast_put_head c = search rules
 
-put-head-requires : tie.Need-put-head-requires
-put-head-requires c κs = search rules
+put_head_requires : tie.Need-put-head-requires
+put_head_requires c κs = search rules
 
-add-put-numbers : tie.Need-overflow-add-put-numbers
-add-put-numbers c = search rules
+add_put_numbers : tie.Need-overflow-add-put-numbers
+add_put_numbers c = search rules
 
-put-numbers-requires : tie.Need-put-numbers-requires
-put-numbers-requires c κs = search rules
+put_numbers_requires : tie.Need-put-numbers-requires
+put_numbers_requires c κs = search rules
 
 same_length : tie.Need-same-length
 same_length c = search rules
@@ -30,16 +30,16 @@ returns c =
     let w = c.before.before in
     let h = w.before.before.before.before in
     let a = h.before.before.before.before.args in
-    value-put a.out.now h.put-head.new.0 (numberBytes a.numbers.now) a.at _ (omega (arith, length-number-bytes a.numbers.now)) h.put-head.ensures w.put-numbers.ensures
+    value_put a.out.now h.put-head.new.0 (number_bytes a.numbers.now) a.at _ (omega (arith, length_number_bytes a.numbers.now)) h.put-head.ensures w.put-numbers.ensures
 
-pub put-number-field-spec : {M : Type 1} → statement M
-put-number-field-spec =
+pub put_number_field_spec : {M : Type 1} → statement M
+put_number_field_spec =
     tie.close
     (tie.spec
-    mul-put-head
-    cast-put-head
-    put-head-requires
-    add-put-numbers
-    put-numbers-requires
+    mul_put_head
+    cast_put_head
+    put_head_requires
+    add_put_numbers
+    put_numbers_requires
     same_length
     returns)

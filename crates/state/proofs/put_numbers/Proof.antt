@@ -5,42 +5,42 @@ use mathlib.Core.Path.{◌≡◌, refl, ap, ◌∙◌}
 use mathlib.Core.List.{List}
 use lib.ListN.{length}
 use Rattle.lists.specs.Build.{put, cells}
-use Rattle.state.proofs.NumberLaws.{bytes_of, put-none, put_next, put_all}
+use Rattle.state.proofs.NumberLaws.{bytes_of, put_none, put_next, put_all}
 use Rattle.state.proofs.put_numbers.Statement.{statement}
 use Rattle.state.proofs.put_numbers.Tie as tie
 
-abbrev invariant-loop : tie.invariant-loop
-invariant-loop out₀ at numbers i₀ i-end out i = (i ≤ length numbers) × (length out ≡ length out₀) × (out ≡ put out₀ at (cells (bytes_of numbers) i))
+abbrev invariant_loop : tie.invariant_loop
+invariant_loop out₀ at numbers i₀ i-end out i = (i ≤ length numbers) × (length out ≡ length out₀) × (out ≡ put out₀ at (cells (bytes_of numbers) i))
 
-abbrev decreases-loop : tie.decreases-loop
-decreases-loop out₀ at numbers i₀ i-end out i = length numbers - i
+abbrev decreases_loop : tie.decreases_loop
+decreases_loop out₀ at numbers i₀ i-end out i = length numbers - i
 
-loop-holds : tie.Need-loop-init invariant-loop decreases-loop
-loop-holds c = (omega arith, refl, put-none c.before.before.args.numbers.now c.before.before.args.out.now c.before.before.args.at (omega arith))
+loop_holds : tie.Need-loop-init invariant_loop decreases_loop
+loop_holds c = (omega arith, refl, put_none c.before.before.args.numbers.now c.before.before.args.out.now c.before.before.args.at (omega arith))
 
-mul-put-u32 : tie.Need-overflow-mul-put-u32 invariant-loop decreases-loop
-mul-put-u32 c = omega arith
+mul_put_u32 : tie.Need-overflow-mul-put-u32 invariant_loop decreases_loop
+mul_put_u32 c = omega arith
 
-add-put-u32 : tie.Need-overflow-add-put-u32 invariant-loop decreases-loop
-add-put-u32 c = omega arith
+add_put_u32 : tie.Need-overflow-add-put-u32 invariant_loop decreases_loop
+add_put_u32 c = omega arith
 
-mul-put-u32-2 : tie.Need-overflow-mul-put-u32-2 invariant-loop decreases-loop
-mul-put-u32-2 c = omega arith
+mul_put_u32_2 : tie.Need-overflow-mul-put-u32-2 invariant_loop decreases_loop
+mul_put_u32_2 c = omega arith
 
-shared-slice-read-put-u32 : tie.Need-shared-slice-read-put-u32 invariant-loop decreases-loop
-shared-slice-read-put-u32 c = omega arith
+shared_slice_read_put_u32 : tie.Need-shared-slice-read-put-u32 invariant_loop decreases_loop
+shared_slice_read_put_u32 c = omega arith
 
-put-u32-requires : tie.Need-put-u32-requires invariant-loop decreases-loop
-put-u32-requires c κs = omega arith
+put_u32_requires : tie.Need-put-u32-requires invariant_loop decreases_loop
+put_u32_requires c κs = omega arith
 
-add-i : tie.Need-overflow-add-i invariant-loop decreases-loop
-add-i c = omega arith
+add_i : tie.Need-overflow-add-i invariant_loop decreases_loop
+add_i c = omega arith
 
-loop-less : tie.Need-loop-smaller invariant-loop decreases-loop
-loop-less c = omega arith
+loop_less : tie.Need-loop-smaller invariant_loop decreases_loop
+loop_less c = omega arith
 
-loop-again : tie.Need-loop-preserved invariant-loop decreases-loop
-loop-again c =
+loop_again : tie.Need-loop-preserved invariant_loop decreases_loop
+loop_again c =
     let w = c.before.before in
     let l = w.before.before.before.before in
     let a = l.before.before.before.args in
@@ -53,29 +53,29 @@ loop-again c =
           ∙ put_next numbers a.out.now a.at i (omega arith),
     )
 
-same_length : tie.Need-same-length invariant-loop decreases-loop
+same_length : tie.Need-same-length invariant_loop decreases_loop
 same_length c = c.before.loop.invariant.1
 
-returns : tie.Need-returns invariant-loop decreases-loop
+returns : tie.Need-returns invariant_loop decreases_loop
 returns c =
     let l = c.before in
     let a = l.before.before.before.args in
     l.loop.invariant.2 ∙ put_all a.numbers.now a.out.now a.at l.loop.i (omega arith)
 
-pub put-numbers-spec : {M : Type 1} → statement M
-put-numbers-spec =
+pub put_numbers_spec : {M : Type 1} → statement M
+put_numbers_spec =
     tie.close
     (tie.spec
-    invariant-loop
-    decreases-loop
-    loop-holds
-    mul-put-u32
-    add-put-u32
-    mul-put-u32-2
-    shared-slice-read-put-u32
-    put-u32-requires
-    add-i
-    loop-less
-    loop-again
+    invariant_loop
+    decreases_loop
+    loop_holds
+    mul_put_u32
+    add_put_u32
+    mul_put_u32_2
+    shared_slice_read_put_u32
+    put_u32_requires
+    add_i
+    loop_less
+    loop_again
     same_length
     returns)

@@ -5,14 +5,14 @@ use mathlib.Core.Path.{sym, ap, ◌∙◌}
 use mathlib.Core.List.{List}
 use lib.ListN.{length}
 use Rattle.lists.specs.Build.{put}
-use Rattle.fields.specs.Fields.{field, fieldBytes}
-use Rattle.fields.proofs.LayoutLaws.{fieldStart}
-use Rattle.table.proofs.OpeningLaws.{accepted-length}
-use Rattle.bias.proofs.OpeningLaws.{accepted-bias-length}
-use Rattle.calibrator.specs.Steps.{calibratorWith}
-use Rattle.state.specs.State.{stateLayout, numberBytes}
+use Rattle.fields.specs.Fields.{field, field_bytes}
+use Rattle.fields.proofs.LayoutLaws.{field_start}
+use Rattle.table.proofs.OpeningLaws.{accepted_length}
+use Rattle.bias.proofs.OpeningLaws.{accepted_bias_length}
+use Rattle.calibrator.specs.Steps.{calibrator_with}
+use Rattle.state.specs.State.{state_layout, number_bytes}
 use Rattle.state.proofs.WindowLaws.{Shaped}
-use Rattle.state.proofs.PutLaws.{state-put}
+use Rattle.state.proofs.PutLaws.{state_put}
 use borrow.Author.Rules.{rules}
 use Rattle.state.proofs.save.Statement.{statement}
 use Rattle.state.proofs.save.Tie as tie
@@ -21,77 +21,77 @@ shaped : (x : tie.After-kelvin) → Shaped x.before.before.before.before.before.
 shaped x = record { warm = search rules; cold = search rules; kelvin = search rules }
 
 -- where the window was taken apart, from where its fields are put
-abbrev windowRead : tie.After-warm2 → tie.After-kelvin
-windowRead c = c.before.before.before.before.before.before.before.before.before.before.before.before
+abbrev window_read : tie.After-warm2 → tie.After-kelvin
+window_read c = c.before.before.before.before.before.before.before.before.before.before.before.before
 
-front-bytes-requires : tie.Need-front-bytes-requires
-front-bytes-requires c κs = search rules
+front_bytes_requires : tie.Need-front-bytes-requires
+front_bytes_requires c κs = search rules
 
-numbers-of-requires : tie.Need-numbers-of-requires
-numbers-of-requires c κs = search rules
+numbers_of_requires : tie.Need-numbers-of-requires
+numbers_of_requires c κs = search rules
 
-array-read-put-field : tie.Need-array-read-put-field
-array-read-put-field c = search rules
+array_read_put_field : tie.Need-array-read-put-field
+array_read_put_field c = search rules
 
-slice-aggregate-put-field : tie.Need-slice-aggregate-put-field
-slice-aggregate-put-field c = search rules
+slice_aggregate_put_field : tie.Need-slice-aggregate-put-field
+slice_aggregate_put_field c = search rules
 
-put-field-requires : tie.Need-put-field-requires
-put-field-requires c κs = search rules
+put_field_requires : tie.Need-put-field-requires
+put_field_requires c κs = search rules
 
-sub-put-field : tie.Need-overflow-sub-put-field
-sub-put-field c = search rules
+sub_put_field : tie.Need-overflow-sub-put-field
+sub_put_field c = search rules
 
-array-read-put-field-2 : tie.Need-array-read-put-field-2
-array-read-put-field-2 c = search rules
+array_read_put_field_2 : tie.Need-array-read-put-field-2
+array_read_put_field_2 c = search rules
 
-put-field-requires-2 : tie.Need-put-field-requires-2
-put-field-requires-2 c κs =
+put_field_requires_2 : tie.Need-put-field-requires-2
+put_field_requires_2 c κs =
     let f = c.before.before.before in
     let start = f.before.before.before.before.before.before.before.before.before.before.before in
-    let long = accepted-length start.requires.1 in
+    let long = accepted_length start.requires.1 in
     (omega (arith, long), omega (arith, long, f.put-field.auto.0, start.requires.0))
 
-slice-aggregate-put-window : tie.Need-slice-aggregate-put-window
-slice-aggregate-put-window c = sym (shaped (windowRead c)).warm
+slice_aggregate_put_window : tie.Need-slice-aggregate-put-window
+slice_aggregate_put_window c = sym (shaped (window_read c)).warm
 
-slice-aggregate-put-window-2 : tie.Need-slice-aggregate-put-window-2
-slice-aggregate-put-window-2 c = sym (shaped (windowRead c.before)).cold
+slice_aggregate_put_window_2 : tie.Need-slice-aggregate-put-window-2
+slice_aggregate_put_window_2 c = sym (shaped (window_read c.before)).cold
 
-slice-aggregate-put-window-3 : tie.Need-slice-aggregate-put-window-3
-slice-aggregate-put-window-3 c = sym (shaped (windowRead c.before.before)).kelvin
+slice_aggregate_put_window_3 : tie.Need-slice-aggregate-put-window-3
+slice_aggregate_put_window_3 c = sym (shaped (window_read c.before.before)).kelvin
 
-put-window-requires : tie.Need-put-window-requires
-put-window-requires c κs =
-    let long = shaped (windowRead c.before.before) in
+put_window_requires : tie.Need-put-window-requires
+put_window_requires c κs =
+    let long = shaped (window_read c.before.before) in
     (omega arith, long.warm, long.cold, long.kelvin)
 
-sub-put-field-2 : tie.Need-overflow-sub-put-field-2
-sub-put-field-2 c = search rules
+sub_put_field_2 : tie.Need-overflow-sub-put-field-2
+sub_put_field_2 c = search rules
 
-array-read-put-field-3 : tie.Need-array-read-put-field-3
-array-read-put-field-3 c = search rules
+array_read_put_field_3 : tie.Need-array-read-put-field-3
+array_read_put_field_3 c = search rules
 
-put-field-requires-3 : tie.Need-put-field-requires-3
-put-field-requires-3 c κs =
+put_field_requires_3 : tie.Need-put-field-requires-3
+put_field_requires_3 c κs =
     let w = c.before.before.before in
     let t = w.before.before.before.before.before.before.before in
     let f = t.before.before.before.before in
     let start = f.before.before.before.before.before.before.before.before.before.before.before in
-    let long = accepted-bias-length start.requires.2 in
+    let long = accepted_bias_length start.requires.2 in
     (omega (arith, long), omega (arith, long, w.put-window.auto.0, t.put-field2.auto.0, f.put-field.auto.0, start.requires.0))
 
-sub-put-number-field : tie.Need-overflow-sub-put-number-field
-sub-put-number-field c = search rules
+sub_put_number_field : tie.Need-overflow-sub-put-number-field
+sub_put_number_field c = search rules
 
-array-read-put-number-field : tie.Need-array-read-put-number-field
-array-read-put-number-field c = search rules
+array_read_put_number_field : tie.Need-array-read-put-number-field
+array_read_put_number_field c = search rules
 
-slice-aggregate-put-number-field : tie.Need-slice-aggregate-put-number-field
-slice-aggregate-put-number-field c = search rules
+slice_aggregate_put_number_field : tie.Need-slice-aggregate-put-number-field
+slice_aggregate_put_number_field c = search rules
 
-put-number-field-requires : tie.Need-put-number-field-requires
-put-number-field-requires c κs = search rules
+put_number_field_requires : tie.Need-put-number-field-requires
+put_number_field_requires c κs = search rules
 
 same_length : tie.Need-same-length
 same_length c = search rules
@@ -108,35 +108,35 @@ returns c =
     let front = window.before.before.before in
     let start = front.before.before.before.before in
     let a = start.args in
-    state-put (calibratorWith a.table.now a.bias.now a.window a.last) (shaped window) (accepted-length start.requires.1) (accepted-bias-length start.requires.2) a.state.now start.requires.0
-    (f.put-field.ensures ∙ ap (λ (l : List ℕ). put a.state.now 0 (fieldBytes (field 0x30 (length l)) l)) front.front_Bytes.ensures)
+    state_put (calibrator_with a.table.now a.bias.now a.window a.last) (shaped window) (accepted_length start.requires.1) (accepted_bias_length start.requires.2) a.state.now start.requires.0
+    (f.put-field.ensures ∙ ap (λ (l : List ℕ). put a.state.now 0 (field_bytes (field 0x30 (length l)) l)) front.front_Bytes.ensures)
     t.put-field2.ensures
     w.put-window.ensures
     b.put-field3.ensures
-    (kept.put-number-field.ensures ∙ ap (λ (l : List ℕ). put b.put-field3.new.0 (fieldStart stateLayout 7) (fieldBytes (field 0x37 (4 * length l)) (numberBytes l))) numbers.Numbers-of.ensures)
+    (kept.put-number-field.ensures ∙ ap (λ (l : List ℕ). put b.put-field3.new.0 (field_start state_layout 7) (field_bytes (field 0x37 (4 * length l)) (number_bytes l))) numbers.Numbers-of.ensures)
 
-pub save-spec : {M : Type 1} → statement M
-save-spec =
+pub save_spec : {M : Type 1} → statement M
+save_spec =
     tie.close
     (tie.spec
-    front-bytes-requires
-    numbers-of-requires
-    array-read-put-field
-    slice-aggregate-put-field
-    put-field-requires
-    sub-put-field
-    array-read-put-field-2
-    put-field-requires-2
-    slice-aggregate-put-window
-    slice-aggregate-put-window-2
-    slice-aggregate-put-window-3
-    put-window-requires
-    sub-put-field-2
-    array-read-put-field-3
-    put-field-requires-3
-    sub-put-number-field
-    array-read-put-number-field
-    slice-aggregate-put-number-field
-    put-number-field-requires
+    front_bytes_requires
+    numbers_of_requires
+    array_read_put_field
+    slice_aggregate_put_field
+    put_field_requires
+    sub_put_field
+    array_read_put_field_2
+    put_field_requires_2
+    slice_aggregate_put_window
+    slice_aggregate_put_window_2
+    slice_aggregate_put_window_3
+    put_window_requires
+    sub_put_field_2
+    array_read_put_field_3
+    put_field_requires_3
+    sub_put_number_field
+    array_read_put_number_field
+    slice_aggregate_put_number_field
+    put_number_field_requires
     same_length
     returns)

@@ -1,55 +1,55 @@
 -- `window_in` meets its contract: each part is read from its place.
-use Rattle.state.specs.State.{windowIn}
+use Rattle.state.specs.State.{window_in}
 use borrow.Author.Rules.{rules}
 use Rattle.state.proofs.window_in.Statement.{statement}
 use Rattle.state.proofs.window_in.Tie as tie
 
-slice-aggregate-numbers-at : tie.Need-slice-aggregate-numbers-at
-slice-aggregate-numbers-at c = search rules
+slice_aggregate_numbers_at : tie.Need-slice-aggregate-numbers-at
+slice_aggregate_numbers_at c = search rules
 
-numbers-at-requires : tie.Need-numbers-at-requires
-numbers-at-requires c κs = search rules
+numbers_at_requires : tie.Need-numbers-at-requires
+numbers_at_requires c κs = search rules
 
-slice-aggregate-numbers-at-2 : tie.Need-slice-aggregate-numbers-at-2
-slice-aggregate-numbers-at-2 c = search rules
+slice_aggregate_numbers_at_2 : tie.Need-slice-aggregate-numbers-at-2
+slice_aggregate_numbers_at_2 c = search rules
 
-numbers-at-requires-2 : tie.Need-numbers-at-requires-2
-numbers-at-requires-2 c κs = search rules
+numbers_at_requires_2 : tie.Need-numbers-at-requires-2
+numbers_at_requires_2 c κs = search rules
 
-slice-aggregate-numbers-at-3 : tie.Need-slice-aggregate-numbers-at-3
-slice-aggregate-numbers-at-3 c = search rules
+slice_aggregate_numbers_at_3 : tie.Need-slice-aggregate-numbers-at-3
+slice_aggregate_numbers_at_3 c = search rules
 
-numbers-at-requires-3 : tie.Need-numbers-at-requires-3
-numbers-at-requires-3 c κs = search rules
+numbers_at_requires_3 : tie.Need-numbers-at-requires-3
+numbers_at_requires_3 c κs = search rules
 
-shared-slice-read-t13 : tie.Need-shared-slice-read-t13
-shared-slice-read-t13 c = search rules
+shared_slice_read_t13 : tie.Need-shared-slice-read-t13
+shared_slice_read_t13 c = search rules
 
-add-u32-at : tie.Need-overflow-add-u32-at
-add-u32-at c = search rules
+add_u32_at : tie.Need-overflow-add-u32-at
+add_u32_at c = search rules
 
-u32-at-requires : tie.Need-u32-at-requires
-u32-at-requires c κs = search rules
+u32_at_requires : tie.Need-u32-at-requires
+u32_at_requires c κs = search rules
 
 returns : tie.Need-returns
-unfolding windowIn
+unfolding window_in
 returns c =
     let kelvin = c.before.before.before in
     let cold = kelvin.before.before.before in
     let warm = cold.before.before.before in
     rw (c.u32-at.ensures, warm.numbers-at.ensures, cold.numbers-at2.ensures, kelvin.numbers-at3.ensures)
 
-pub window-in-spec : {M : Type 1} → statement M
-window-in-spec =
+pub window_in_spec : {M : Type 1} → statement M
+window_in_spec =
     tie.close
     (tie.spec
-    slice-aggregate-numbers-at
-    numbers-at-requires
-    slice-aggregate-numbers-at-2
-    numbers-at-requires-2
-    slice-aggregate-numbers-at-3
-    numbers-at-requires-3
-    shared-slice-read-t13
-    add-u32-at
-    u32-at-requires
+    slice_aggregate_numbers_at
+    numbers_at_requires
+    slice_aggregate_numbers_at_2
+    numbers_at_requires_2
+    slice_aggregate_numbers_at_3
+    numbers_at_requires_3
+    shared_slice_read_t13
+    add_u32_at
+    u32_at_requires
     returns)

@@ -7,14 +7,14 @@ use lib.ListN.{length}
 use Rattle.lists.specs.Build.{tabulate}
 use Rattle.lists.specs.Tests.{Verdict, passes, fails, number_of}
 use Rattle.table.specs.Opening.{opening}
-use Rattle.table.proofs.OpenedLaws.{number_is, passed-at-zero}
-use Rattle.bias.specs.Opening.{biasOpening, bothOpening}
-use Rattle.bias.proofs.OpeningLaws.{both-by-table, both-by-bias, both-pass}
+use Rattle.table.proofs.OpenedLaws.{number_is, passed_at_zero}
+use Rattle.bias.specs.Opening.{bias_opening, both_opening}
+use Rattle.bias.proofs.OpeningLaws.{both_by_table, both_by_bias, both_pass}
 use Rattle.calibrator.specs.declared.Calibrator.{Calibrator}
 use Rattle.calibrator.specs.Feeding.{fresh_of}
-use Rattle.feeds.specs.FeedList.{Lent, answerAt, buffersAt}
-use Rattle.station.specs.Calls.{freshUnder, answersBy, buffersBy}
-use Rattle.station.proofs.HandedLaws.{handed-table, handed-table-accepted, handed-bias, handed-bias-accepted}
+use Rattle.feeds.specs.FeedList.{Lent, answer_at, buffersAt}
+use Rattle.station.specs.Calls.{fresh_under, answers_by, buffers_by}
+use Rattle.station.proofs.HandedLaws.{handed_table, handed_table_accepted, handed_bias, handed_bias_accepted}
 use borrow.Author.Rules.{rules}
 use Rattle.station.proofs.sounder_feed_all.Statement.{statement}
 use Rattle.station.proofs.sounder_feed_all.Tie as tie
@@ -23,93 +23,93 @@ use Rattle.station.proofs.sounder_feed_all.Tie as tie
 module _ (table bias : List ℕ) (lent : Lent) (answers : List ℕ) where
   abbrev LeftBy : Verdict → ℕ → (answered written : List ℕ) → Type 0
   LeftBy verdict n answered written =
-      (n ≡ number_of verdict) × (answered ≡ answersBy verdict table bias lent answers)
-      × (written ≡ buffersBy verdict table bias lent (length answers))
+      (n ≡ number_of verdict) × (answered ≡ answers_by verdict table bias lent answers)
+      × (written ≡ buffers_by verdict table bias lent (length answers))
 
-  refused-writes-nothing : {n : ℕ} → n ≡ number_of (bothOpening table bias) → (n ≡ 0 → ⊥) → LeftBy (bothOpening table bias) n answers lent.buffers
-  refused-writes-nothing = by-verdict (bothOpening table bias)
+  refused_writes_nothing : {n : ℕ} → n ≡ number_of (both_opening table bias) → (n ≡ 0 → ⊥) → LeftBy (both_opening table bias) n answers lent.buffers
+  refused_writes_nothing = by-verdict (both_opening table bias)
     where
       by-verdict : (verdict : Verdict) → {n : ℕ} → n ≡ number_of verdict → (n ≡ 0 → ⊥) → LeftBy verdict n answers lent.buffers
       by-verdict passes is some = absurd (some is)
       by-verdict (fails k) is some = (is, refl, refl)
 
-  passed-is-fed : bothOpening table bias ≡ passes → {first : Calibrator} → first ≡ freshUnder table bias → {answered written : List ℕ}
-      → answered ≡ tabulate (answerAt first lent) (length answers)
+  passed_is_fed : both_opening table bias ≡ passes → {first : Calibrator} → first ≡ fresh_under table bias → {answered written : List ℕ}
+      → answered ≡ tabulate (answer_at first lent) (length answers)
       → written ≡ buffersAt first lent (length answers)
-      → LeftBy (bothOpening table bias) 0 answered written
-  passed-is-fed passed fresh {answered} {written} answers-are buffers-are =
+      → LeftBy (both_opening table bias) 0 answered written
+  passed_is_fed passed fresh {answered} {written} answers-are buffers-are =
       subst (λ (verdict : Verdict). LeftBy verdict 0 answered written) (sym passed) (refl, rw fresh at answers-are, rw fresh at buffers-are)
 
 -- ---- neither was refused
 abbrev start_of : tie.Else1 → tie.Start
 start_of x = x.before.before.before.before.before.before.before.before.before.before
 
-table-passed : (x : tie.Else1) → opening (start_of x).args.table.now ≡ passes
-table-passed x =
+table_passed : (x : tie.Else1) → opening (start_of x).args.table.now ≡ passes
+table_passed x =
     let number = x.before in
     let opened = number.before in
-    passed-at-zero opened.«open».result.answer opened.«open».ensures.0 number.refusal-number.ensures x.if1.false
+    passed_at_zero opened.«open».result.answer opened.«open».ensures.0 number.refusal-number.ensures x.if1.false
 
-bias-passed : (x : tie.Else2) → biasOpening (start_of x.before.before.before).args.bias.now ≡ passes
-bias-passed x =
+bias_passed : (x : tie.Else2) → bias_opening (start_of x.before.before.before).args.bias.now ≡ passes
+bias_passed x =
     let number = x.before in
     let opened = number.before in
-    passed-at-zero opened.open2.result.answer opened.open2.ensures.0 number.refusal-number2.ensures x.if2.false
+    passed_at_zero opened.open2.result.answer opened.open2.ensures.0 number.refusal-number2.ensures x.if2.false
 
-open-requires : tie.Need-open-requires
-open-requires c κs = search rules
+open_requires : tie.Need-open-requires
+open_requires c κs = search rules
 
-refusal-number-requires : tie.Need-refusal-number-requires
-refusal-number-requires c κs = search rules
+refusal_number_requires : tie.Need-refusal-number-requires
+refusal_number_requires c κs = search rules
 
 returns : tie.Need-returns
 returns c =
     let number = c.before in
     let opened = number.before in
     let is = number_is opened.«open».result.answer opened.«open».ensures.0 number.refusal-number.ensures in
-    refused-writes-nothing _ _ _ _ (both-by-table _ _ is c.if1.true) c.if1.true
+    refused_writes_nothing _ _ _ _ (both_by_table _ _ is c.if1.true) c.if1.true
 
-open-requires-2 : tie.Need-open-requires-2
-open-requires-2 c κs = search rules
+open_requires_2 : tie.Need-open-requires-2
+open_requires_2 c κs = search rules
 
-refusal-number-requires-2 : tie.Need-refusal-number-requires-2
-refusal-number-requires-2 c κs = search rules
+refusal_number_requires_2 : tie.Need-refusal-number-requires-2
+refusal_number_requires_2 c κs = search rules
 
-returns-2 : tie.Need-returns-2
-returns-2 c =
+returns_2 : tie.Need-returns-2
+returns_2 c =
     let number = c.before in
     let opened = number.before in
     let first = opened.before in
     let is = number_is opened.open2.result.answer opened.open2.ensures.0 number.refusal-number2.ensures in
-    refused-writes-nothing _ _ _ _ (both-by-bias _ _ (table-passed first) is) c.if2.true
+    refused_writes_nothing _ _ _ _ (both_by_bias _ _ (table_passed first) is) c.if2.true
 
-table-requires : tie.Need-table-requires
-table-requires c κs = search rules
+table_requires : tie.Need-table-requires
+table_requires c κs = search rules
 
-bias-requires : tie.Need-bias-requires
-bias-requires c κs = search rules
+bias_requires : tie.Need-bias-requires
+bias_requires c κs = search rules
 
-fresh-requires : tie.Need-fresh-requires
-fresh-requires c κs =
+fresh_requires : tie.Need-fresh-requires
+fresh_requires c κs =
     let second = c.before.before in
     let biasOpened = second.before.before in
     let first = biasOpened.before in
     let opened = first.before.before in (
-      handed-table-accepted _ c.before.table.ensures opened.«open».ensures.1 (table-passed first),
-      handed-bias-accepted _ c.bias.ensures biasOpened.open2.ensures.1 (bias-passed second) biasOpened.open2.ensures.2,
+      handed_table_accepted _ c.before.table.ensures opened.«open».ensures.1 (table_passed first),
+      handed_bias_accepted _ c.bias.ensures biasOpened.open2.ensures.1 (bias_passed second) biasOpened.open2.ensures.2,
     )
 
-feed-list-requires : tie.Need-feed-list-requires
-feed-list-requires c κs = search rules
+feed_list_requires : tie.Need-feed-list-requires
+feed_list_requires c κs = search rules
 
 same_length : tie.Need-same-length
 same_length c = search rules
 
-same-length-2 : tie.Need-same-length-2
-same-length-2 c = search rules
+same_length_2 : tie.Need-same-length-2
+same_length_2 c = search rules
 
-returns-3 : tie.Need-returns-3
-returns-3 c =
+returns_3 : tie.Need-returns-3
+returns_3 c =
     let fed = c.before.before.before.before in
     let made = fed.before.before.before in
     let bias = made.before in
@@ -118,28 +118,28 @@ returns-3 c =
     let biasOpened = second.before.before in
     let first = biasOpened.before in
     let opened = first.before.before in
-    let passed = table-passed first in
-    let also = bias-passed second in
-    passed-is-fed _ _ _ _ (both-pass _ _ passed also)
+    let passed = table_passed first in
+    let also = bias_passed second in
+    passed_is_fed _ _ _ _ (both_pass _ _ passed also)
     (made.fresh.ensures.0
-    ∙ ap₂ fresh_of (handed-table _ table.table.ensures opened.«open».ensures.1 passed) (handed-bias _ bias.bias.ensures biasOpened.open2.ensures.1 also))
+    ∙ ap₂ fresh_of (handed_table _ table.table.ensures opened.«open».ensures.1 passed) (handed_bias _ bias.bias.ensures biasOpened.open2.ensures.1 also))
     fed.feed-list.ensures.0
     fed.feed-list.ensures.1
 
-pub sounder-feed-all-spec : {M : Type 1} → statement M
-sounder-feed-all-spec =
+pub sounder_feed_all_spec : {M : Type 1} → statement M
+sounder_feed_all_spec =
     tie.close
     (tie.spec
-    open-requires
-    refusal-number-requires
+    open_requires
+    refusal_number_requires
     returns
-    open-requires-2
-    refusal-number-requires-2
-    returns-2
-    table-requires
-    bias-requires
-    fresh-requires
-    feed-list-requires
+    open_requires_2
+    refusal_number_requires_2
+    returns_2
+    table_requires
+    bias_requires
+    fresh_requires
+    feed_list_requires
     same_length
-    same-length-2
-    returns-3)
+    same_length_2
+    returns_3)

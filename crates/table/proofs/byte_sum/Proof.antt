@@ -6,52 +6,52 @@ use mathlib.Core.Path.{◌≡◌, ap, sym, ◌∙◌}
 use mathlib.Core.List.{List}
 use lib.ListN.{get_or}
 use Rattle.lists.specs.Sum.{sum}
-use Rattle.lists.proofs.Sum.{sum-none, sum_more}
+use Rattle.lists.proofs.Sum.{sum_none, sum_more}
 use Rattle.table.proofs.byte_sum.Statement.{statement}
 use Rattle.table.proofs.byte_sum.Tie as tie
 
 abbrev byte_of : List ℕ → ℕ → ℕ → ℕ → ℕ
 byte_of table at step k = get_or table (at + step * k) 0
 
-abbrev invariant-loop : tie.invariant-loop
-invariant-loop table at step n total₀ place₀ k₀ total place k =
+abbrev invariant_loop : tie.invariant_loop
+invariant_loop table at step n total₀ place₀ k₀ total place k =
     (k ≤ n) × (place ≡ at + step * k) × (total ≡ sum (byte_of table at step) k) × (total ≤ 255 * k)
 
-abbrev decreases-loop : tie.decreases-loop
-decreases-loop table at step n total₀ place₀ k₀ total place k = n - k
+abbrev decreases_loop : tie.decreases_loop
+decreases_loop table at step n total₀ place₀ k₀ total place k = n - k
 
-one-more-step : (step k n : ℕ) → k < n → step * k + step ≤ step * n
-one-more-step step k n below = omega (arith, mul-le-mul_left step below)
+one_more_step : (step k n : ℕ) → k < n → step * k + step ≤ step * n
+one_more_step step k n below = omega (arith, mul-le-mul_left step below)
 
-loop-holds : tie.Need-loop-init invariant-loop decreases-loop
-loop-holds c = (omega arith, omega arith, sym (sum-none _), omega arith)
+loop_holds : tie.Need-loop-init invariant_loop decreases_loop
+loop_holds c = (omega arith, omega arith, sym (sum_none _), omega arith)
 
-shared-slice-read-total : tie.Need-shared-slice-read-total invariant-loop decreases-loop
-shared-slice-read-total c =
+shared_slice_read_total : tie.Need-shared-slice-read-total invariant_loop decreases_loop
+shared_slice_read_total c =
     let l = c.before.before in
     let a = l.before.args in
-    omega (arith, one-more-step a.step l.loop.k a.n (omega arith))
+    omega (arith, one_more_step a.step l.loop.k a.n (omega arith))
 
-cast-total : tie.Need-overflow-cast-total invariant-loop decreases-loop
-cast-total c = omega (arith, c.shared-slice-known.given c.before.before.loop.place)
+cast_total : tie.Need-overflow-cast-total invariant_loop decreases_loop
+cast_total c = omega (arith, c.shared-slice-known.given c.before.before.loop.place)
 
-add_total : tie.Need-overflow-add-total invariant-loop decreases-loop
+add_total : tie.Need-overflow-add-total invariant_loop decreases_loop
 add_total c = omega (arith, c.shared-slice-known.given c.before.before.loop.place)
 
-add-place : tie.Need-overflow-add-place invariant-loop decreases-loop
-add-place c =
+add_place : tie.Need-overflow-add-place invariant_loop decreases_loop
+add_place c =
     let l = c.before.before in
     let a = l.before.args in
-    omega (arith, one-more-step a.step l.loop.k a.n (omega arith))
+    omega (arith, one_more_step a.step l.loop.k a.n (omega arith))
 
-add-k : tie.Need-overflow-add-k invariant-loop decreases-loop
-add-k c = omega arith
+add_k : tie.Need-overflow-add-k invariant_loop decreases_loop
+add_k c = omega arith
 
-loop-less : tie.Need-loop-smaller invariant-loop decreases-loop
-loop-less c = omega arith
+loop_less : tie.Need-loop-smaller invariant_loop decreases_loop
+loop_less c = omega arith
 
-loop-again : tie.Need-loop-preserved invariant-loop decreases-loop
-loop-again c =
+loop_again : tie.Need-loop-preserved invariant_loop decreases_loop
+loop_again c =
     let l = c.before.before in
     let a = l.before.args in
     let f : ℕ → ℕ = byte_of a.table.now a.at a.step in
@@ -62,25 +62,25 @@ loop-again c =
       omega (arith, c.shared-slice-known.given l.loop.place),
     )
 
-returns : tie.Need-returns invariant-loop decreases-loop
+returns : tie.Need-returns invariant_loop decreases_loop
 returns c =
     let l = c.before in
     let a = l.before.args in
     let last : l.loop.k ≡ a.n = omega arith in
     l.loop.invariant.2 ∙ ap (sum (byte_of a.table.now a.at a.step)) last
 
-pub byte-sum-spec : {M : Type 1} → statement M
-byte-sum-spec =
+pub byte_sum_spec : {M : Type 1} → statement M
+byte_sum_spec =
     tie.close
     (tie.spec
-    invariant-loop
-    decreases-loop
-    loop-holds
-    shared-slice-read-total
-    cast-total
+    invariant_loop
+    decreases_loop
+    loop_holds
+    shared_slice_read_total
+    cast_total
     add_total
-    add-place
-    add-k
-    loop-less
-    loop-again
+    add_place
+    add_k
+    loop_less
+    loop_again
     returns)

@@ -1,6 +1,6 @@
 -- `corrections_of` meets its contract: each value is read where the channel's row has it, and an i16 fits.
 use borrow.Author.Rules.{rules}
-use Rattle.integers.proofs.Machine.{result-reads-back}
+use Rattle.integers.proofs.Machine.{result_reads_back}
 use Rattle.table.proofs.corrections_of.Statement.{statement}
 use Rattle.table.proofs.corrections_of.Tie as tie
 
@@ -10,48 +10,48 @@ mul_at c = search rules
 add_at : tie.Need-overflow-add-at
 add_at c = search rules
 
-add-i16-at : tie.Need-overflow-add-i16-at
-add-i16-at c = search rules
+add_i16_at : tie.Need-overflow-add-i16-at
+add_i16_at c = search rules
 
-i16-at-requires : tie.Need-i16-at-requires
-i16-at-requires c κs = search rules
+i16_at_requires : tie.Need-i16-at-requires
+i16_at_requires c κs = search rules
 
-add-u16-at : tie.Need-overflow-add-u16-at
-add-u16-at c = search rules
+add_u16_at : tie.Need-overflow-add-u16-at
+add_u16_at c = search rules
 
-u16-at-requires : tie.Need-u16-at-requires
-u16-at-requires c κs = search rules
+u16_at_requires : tie.Need-u16-at-requires
+u16_at_requires c κs = search rules
 
-add-u16-at-2 : tie.Need-overflow-add-u16-at-2
-add-u16-at-2 c = search rules
+add_u16_at_2 : tie.Need-overflow-add-u16-at-2
+add_u16_at_2 c = search rules
 
-u16-at-requires-2 : tie.Need-u16-at-requires-2
-u16-at-requires-2 c κs = search rules
+u16_at_requires_2 : tie.Need-u16-at-requires-2
+u16_at_requires_2 c κs = search rules
 
-add-i16-at-2 : tie.Need-overflow-add-i16-at-2
-add-i16-at-2 c = search rules
+add_i16_at_2 : tie.Need-overflow-add-i16-at-2
+add_i16_at_2 c = search rules
 
-i16-at-requires-2 : tie.Need-i16-at-requires-2
-i16-at-requires-2 c κs = search rules
+i16_at_requires_2 : tie.Need-i16-at-requires-2
+i16_at_requires_2 c κs = search rules
 
 returns : tie.Need-returns
 returns c =
     let b = c.before.before.before.i16-at in
     let tnl = c.i16-at2 in
-    rw (result-reads-back b.result b.type-inv, result-reads-back tnl.result tnl.type-inv, b.ensures, c.before.before.u16-at.ensures, c.before.u16-at2.ensures, tnl.ensures)
+    rw (result_reads_back b.result b.type-inv, result_reads_back tnl.result tnl.type-inv, b.ensures, c.before.before.u16-at.ensures, c.before.u16-at2.ensures, tnl.ensures)
 
-pub corrections-of-spec : {M : Type 1} → statement M
-corrections-of-spec =
+pub corrections_of_spec : {M : Type 1} → statement M
+corrections_of_spec =
     tie.close
     (tie.spec
     mul_at
     add_at
-    add-i16-at
-    i16-at-requires
-    add-u16-at
-    u16-at-requires
-    add-u16-at-2
-    u16-at-requires-2
-    add-i16-at-2
-    i16-at-requires-2
+    add_i16_at
+    i16_at_requires
+    add_u16_at
+    u16_at_requires
+    add_u16_at_2
+    u16_at_requires_2
+    add_i16_at_2
+    i16_at_requires_2
     returns)

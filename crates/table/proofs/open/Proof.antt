@@ -5,125 +5,125 @@ use mathlib.Core.Path.{◌≡◌, refl, ap, ◌∙◌}
 use mathlib.Core.List.{List}
 use mathlib.Core.Bool.{Bool}
 use borrow.Author.Rules.{rules}
-use Rattle.lists.proofs.Put.{copied-whole}
-use Rattle.fields.specs.Fields.{layoutIsRight, layoutSize}
-use Rattle.table.specs.Settings.{tableLayout, settingsOf}
-use Rattle.table.specs.Ranges.{valuesInside}
-use Rattle.table.specs.Opening.{ages, tableSize, verdictOf, opening}
-use Rattle.table.proofs.Answers.{test-passed, test-failed}
-use Rattle.table.proofs.OpeningLaws.{lent-layout, opening-length-wrong, opening-field-wrong, opening-value-outside, opening-passes, opened-by}
+use Rattle.lists.proofs.Put.{copied_whole}
+use Rattle.fields.specs.Fields.{layout_is_right, layout_size}
+use Rattle.table.specs.Settings.{table_layout, settings_of}
+use Rattle.table.specs.Ranges.{values_inside}
+use Rattle.table.specs.Opening.{ages, table_size, verdict_of, opening}
+use Rattle.table.proofs.Answers.{test_passed, test_failed}
+use Rattle.table.proofs.OpeningLaws.{lent_layout, opening_length_wrong, opening_field_wrong, opening_value_outside, opening_passes, opened_by_lem}
 use Rattle.table.proofs.open.Statement.{statement}
 use Rattle.table.proofs.open.Tie as tie
 
 -- whether the values of the bytes are in their ranges
 abbrev inside : List ℕ → Bool
-inside bytes = valuesInside (settingsOf ages bytes)
+inside bytes = values_inside (settings_of ages bytes)
 
-layout-answers : (c : tie.After-layout-is-right)
-    → c.layout-is-right.result ≡ layoutIsRight c.before.before.before.before.before.args.bytes.now 0 (tableLayout ages)
-layout-answers c = c.layout-is-right.ensures ∙ ap (layoutIsRight c.before.before.before.before.before.args.bytes.now 0) lent-layout
+layout_answers : (c : tie.After-layout-is-right)
+    → c.layout-is-right.result ≡ layout_is_right c.before.before.before.before.before.args.bytes.now 0 (table_layout ages)
+layout_answers c = c.layout-is-right.ensures ∙ ap (layout_is_right c.before.before.before.before.before.args.bytes.now 0) lent_layout
 
-refused-requires : tie.Need-refused-requires
-refused-requires c κs = search rules
+refused_requires : tie.Need-refused-requires
+refused_requires c κs = search rules
 
 returns : tie.Need-returns
 unfolding opening
 returns c =
     let bytes = c.before.before.before.args.bytes.now in
-    opened-by tableSize bytes (opening-length-wrong (tableLayout ages) (inside bytes) bytes c.before.if1.true) (ap verdictOf c.refused.ensures.0) c.refused.ensures.1
+    opened_by_lem table_size bytes (opening_length_wrong (table_layout ages) (inside bytes) bytes c.before.if1.true) (ap verdict_of c.refused.ensures.0) c.refused.ensures.1
 
-slice-aggregate-layout-is-right : tie.Need-slice-aggregate-layout-is-right
-slice-aggregate-layout-is-right c = refl
+slice_aggregate_layout_is_right : tie.Need-slice-aggregate-layout-is-right
+slice_aggregate_layout_is_right c = refl
 
-slice-aggregate-layout-is-right-2 : tie.Need-slice-aggregate-layout-is-right-2
-slice-aggregate-layout-is-right-2 c = refl
+slice_aggregate_layout_is_right_2 : tie.Need-slice-aggregate-layout-is-right-2
+slice_aggregate_layout_is_right_2 c = refl
 
-layout-is-right-requires : tie.Need-layout-is-right-requires
-layout-is-right-requires c κs = (refl, rw (ap layoutSize lent-layout) (omega arith))
+layout_is_right_requires : tie.Need-layout-is-right-requires
+layout_is_right_requires c κs = (refl, rw (ap layout_size lent_layout) (omega arith))
 
-refused-requires-2 : tie.Need-refused-requires-2
-refused-requires-2 c κs = search rules
+refused_requires_2 : tie.Need-refused-requires-2
+refused_requires_2 c κs = search rules
 
-returns-2 : tie.Need-returns-2
+returns_2 : tie.Need-returns-2
 unfolding opening
-returns-2 c =
+returns_2 c =
     let l = c.before.before in
     let bytes = l.before.before.before.before.before.args.bytes.now in
-    opened-by
-    tableSize
+    opened_by_lem
+    table_size
     bytes
-    (opening-field-wrong (tableLayout ages) (inside bytes) bytes l.before.before.before.if1.false (test-failed (layout-answers l) c.before.if2.true))
-    (ap verdictOf c.refused2.ensures.0)
+    (opening_field_wrong (table_layout ages) (inside bytes) bytes l.before.before.before.if1.false (test_failed (layout_answers l) c.before.if2.true))
+    (ap verdict_of c.refused2.ensures.0)
     c.refused2.ensures.1
 
-values-inside-requires : tie.Need-values-inside-requires
-values-inside-requires c κs = search rules
+values_inside_requires : tie.Need-values-inside-requires
+values_inside_requires c κs = search rules
 
-refused-requires-3 : tie.Need-refused-requires-3
-refused-requires-3 c κs = search rules
+refused_requires_3 : tie.Need-refused-requires-3
+refused_requires_3 c κs = search rules
 
-returns-3 : tie.Need-returns-3
+returns_3 : tie.Need-returns-3
 unfolding opening
-returns-3 c =
+returns_3 c =
     let v = c.before.before in
     let second = v.before in
     let l = second.before in
     let bytes = l.before.before.before.before.before.args.bytes.now in
-    opened-by
-    tableSize
+    opened_by_lem
+    table_size
     bytes
-    (opening-value-outside
-    (tableLayout ages)
+    (opening_value_outside
+    (table_layout ages)
     (inside bytes)
     bytes
     l.before.before.before.if1.false
-    (test-passed (layout-answers l) second.if2.false)
-    (test-failed v.values-inside.ensures c.before.if3.true))
-    (ap verdictOf c.refused3.ensures.0)
+    (test_passed (layout_answers l) second.if2.false)
+    (test_failed v.values-inside.ensures c.before.if3.true))
+    (ap verdict_of c.refused3.ensures.0)
     c.refused3.ensures.1
 
-slice-aggregate-copy : tie.Need-slice-aggregate-copy
-slice-aggregate-copy c = refl
+slice_aggregate_copy : tie.Need-slice-aggregate-copy
+slice_aggregate_copy c = refl
 
-copy-requires : tie.Need-copy-requires
-copy-requires c κs = search rules
+copy_requires : tie.Need-copy-requires
+copy_requires c κs = search rules
 
-returns-4 : tie.Need-returns-4
+returns_4 : tie.Need-returns-4
 unfolding opening
-returns-4 c =
+returns_4 c =
     let third = c.before.before.before in
     let v = third.before in
     let second = v.before in
     let l = second.before in
     let long = l.before.before.before.if1.false in
     let bytes = l.before.before.before.before.before.args.bytes.now in
-    opened-by
-    tableSize
+    opened_by_lem
+    table_size
     bytes
-    (opening-passes
-    (tableLayout ages)
+    (opening_passes
+    (table_layout ages)
     (inside bytes)
     bytes
     long
-    (test-passed (layout-answers l) second.if2.false)
-    (test-passed v.values-inside.ensures third.if3.false))
+    (test_passed (layout_answers l) second.if2.false)
+    (test_passed v.values-inside.ensures third.if3.false))
     refl
-    (copied-whole bytes _ _ long c.before.copy2.ensures.1)
+    (copied_whole bytes _ _ long c.before.copy2.ensures.1)
 
 pub open_spec : {M : Type 1} → statement M
 open_spec =
     tie.close
     (tie.spec
-    refused-requires
+    refused_requires
     returns
-    slice-aggregate-layout-is-right
-    slice-aggregate-layout-is-right-2
-    layout-is-right-requires
-    refused-requires-2
-    returns-2
-    values-inside-requires
-    refused-requires-3
-    returns-3
-    slice-aggregate-copy
-    copy-requires
-    returns-4)
+    slice_aggregate_layout_is_right
+    slice_aggregate_layout_is_right_2
+    layout_is_right_requires
+    refused_requires_2
+    returns_2
+    values_inside_requires
+    refused_requires_3
+    returns_3
+    slice_aggregate_copy
+    copy_requires
+    returns_4)

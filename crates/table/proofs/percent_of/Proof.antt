@@ -1,25 +1,25 @@
 -- `percent_of` meets its contract: both places are inside the table, and the side tells which is read.
 use native.Mathlib.Omega.{arith}
 use borrow.Author.Rules.{rules}
-use Rattle.instrument.proofs.Places.{side-place-below}
+use Rattle.instrument.proofs.Places.{side_place_below}
 use Rattle.table.proofs.percent_of.Statement.{statement}
 use Rattle.table.proofs.percent_of.Tie as tie
 
 add_at : tie.Need-overflow-add-at
 add_at c = search rules
 
-side-place-requires : tie.Need-side-place-requires
-side-place-requires c κs = search rules
+side_place_requires : tie.Need-side-place-requires
+side_place_requires c κs = search rules
 
-add-at-2 : tie.Need-overflow-add-at-2
-add-at-2 c = omega (arith, side-place-below c.before.before.args.side)
+add_at_2 : tie.Need-overflow-add-at-2
+add_at_2 c = omega (arith, side_place_below c.before.before.args.side)
 
-shared-slice-read-result : tie.Need-shared-slice-read-result
-shared-slice-read-result c = omega (arith, side-place-below c.before.before.before.args.side)
+shared_slice_read_result : tie.Need-shared-slice-read-result
+shared_slice_read_result c = omega (arith, side_place_below c.before.before.before.args.side)
 
 returns : tie.Need-returns
 returns c = rw c.before.side-place.ensures
 
-pub percent-of-spec : {M : Type 1} → statement M
-percent-of-spec =
-    tie.close (tie.spec add_at side-place-requires add-at-2 shared-slice-read-result returns)
+pub percent_of_spec : {M : Type 1} → statement M
+percent_of_spec =
+    tie.close (tie.spec add_at side_place_requires add_at_2 shared_slice_read_result returns)

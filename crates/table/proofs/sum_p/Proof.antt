@@ -7,25 +7,25 @@ use borrow.Author.Rules.{rules}
 use Rattle.lists.specs.Sum.{sum}
 use Rattle.lists.proofs.Sum.{sum_same}
 use Rattle.instrument.specs.Instrument.{size_of}
-use Rattle.instrument.proofs.Places.{last-at-most}
+use Rattle.instrument.proofs.Places.{last_at_most}
 use Rattle.table.proofs.sum_p.Statement.{statement}
 use Rattle.table.proofs.sum_p.Tie as tie
 
-first-of-requires : tie.Need-first-of-requires
-first-of-requires c κs = search rules
+first_of_requires : tie.Need-first-of-requires
+first_of_requires c κs = search rules
 
 mul_at : tie.Need-overflow-mul-at
-mul_at c = omega (arith, last-at-most c.before.before.args.target)
+mul_at c = omega (arith, last_at_most c.before.before.args.target)
 
 add_at : tie.Need-overflow-add-at
-add_at c = omega (arith, last-at-most c.before.before.args.target)
+add_at c = omega (arith, last_at_most c.before.before.args.target)
 
-size-of-requires : tie.Need-size-of-requires
-size-of-requires c κs = search rules
+size_of_requires : tie.Need-size-of-requires
+size_of_requires c κs = search rules
 
-byte-sum-requires : tie.Need-byte-sum-requires
-byte-sum-requires c κs =
-    let last = last-at-most c.before.before.before.args.target in
+byte_sum_requires : tie.Need-byte-sum-requires
+byte_sum_requires c κs =
+    let last = last_at_most c.before.before.before.args.target in
     (omega arith, omega arith, omega arith)
 
 returns : tie.Need-returns
@@ -35,6 +35,6 @@ returns c =
     ∙ ap (sum _) c.before.type_size.ensures
     ∙ sum_same _ _ (size_of a.target) (λ k below. ap (λ (p : ℕ). get_or a.table.now p 0) (omega arith))
 
-pub sum-p-spec : {M : Type 1} → statement M
-sum-p-spec =
-    tie.close (tie.spec first-of-requires mul_at add_at size-of-requires byte-sum-requires returns)
+pub sum_p_spec : {M : Type 1} → statement M
+sum_p_spec =
+    tie.close (tie.spec first_of_requires mul_at add_at size_of_requires byte_sum_requires returns)

@@ -1,42 +1,42 @@
 -- `sums_inside` meets its contract: each answer in the list is its test of one of the sums.
 use mathlib.Core.Path.{◌∙◌}
 use borrow.Author.Rules.{rules}
-use Rattle.table.specs.Ranges.{sumsInside}
+use Rattle.table.specs.Ranges.{sums_inside}
 use Rattle.table.proofs.sums_inside.Statement.{statement}
 use Rattle.table.proofs.sums_inside.Tie as tie
 
-sum-w-requires : tie.Need-sum-w-requires
-sum-w-requires c κs = search rules
+sum_w_requires : tie.Need-sum-w-requires
+sum_w_requires c κs = search rules
 
-from-to-requires : tie.Need-from-to-requires
-from-to-requires c κs = search rules
+from_to_requires : tie.Need-from-to-requires
+from_to_requires c κs = search rules
 
-sum-v-requires : tie.Need-sum-v-requires
-sum-v-requires c κs = search rules
+sum_v_requires : tie.Need-sum-v-requires
+sum_v_requires c κs = search rules
 
-from-to-requires-2 : tie.Need-from-to-requires-2
-from-to-requires-2 c κs = search rules
+from_to_requires_2 : tie.Need-from-to-requires-2
+from_to_requires_2 c κs = search rules
 
-sum-p-requires : tie.Need-sum-p-requires
-sum-p-requires c κs = search rules
+sum_p_requires : tie.Need-sum-p-requires
+sum_p_requires c κs = search rules
 
-from-to-requires-3 : tie.Need-from-to-requires-3
-from-to-requires-3 c κs = search rules
+from_to_requires_3 : tie.Need-from-to-requires-3
+from_to_requires_3 c κs = search rules
 
-sum-p-requires-2 : tie.Need-sum-p-requires-2
-sum-p-requires-2 c κs = search rules
+sum_p_requires_2 : tie.Need-sum-p-requires-2
+sum_p_requires_2 c κs = search rules
 
-from-to-requires-4 : tie.Need-from-to-requires-4
-from-to-requires-4 c κs = search rules
+from_to_requires_4 : tie.Need-from-to-requires-4
+from_to_requires_4 c κs = search rules
 
-slice-aggregate-all-hold : tie.Need-slice-aggregate-all-hold
-slice-aggregate-all-hold c = search rules
+slice_aggregate_all_hold : tie.Need-slice-aggregate-all-hold
+slice_aggregate_all_hold c = search rules
 
-all-hold-requires : tie.Need-all-hold-requires
-all-hold-requires c κs = search rules
+all_hold_requires : tie.Need-all-hold-requires
+all_hold_requires c κs = search rules
 
 returns : tie.Need-returns
-unfolding sumsInside
+unfolding sums_inside
 returns c =
     let wg = c.before.before in
     let kav = wg.before.before in
@@ -45,18 +45,18 @@ returns c =
     c.all_hold.ensures
     ∙ rw (w.from-to.ensures, w.before.sum-w.ensures, v.from-to2.ensures, v.before.sum-v.ensures, kav.from-to3.ensures, kav.before.sum-p.ensures, wg.from-to4.ensures, wg.before.sum-p2.ensures)
 
-pub sums-inside-spec : {M : Type 1} → statement M
-sums-inside-spec =
+pub sums_inside_spec : {M : Type 1} → statement M
+sums_inside_spec =
     tie.close
     (tie.spec
-    sum-w-requires
-    from-to-requires
-    sum-v-requires
-    from-to-requires-2
-    sum-p-requires
-    from-to-requires-3
-    sum-p-requires-2
-    from-to-requires-4
-    slice-aggregate-all-hold
-    all-hold-requires
+    sum_w_requires
+    from_to_requires
+    sum_v_requires
+    from_to_requires_2
+    sum_p_requires
+    from_to_requires_3
+    sum_p_requires_2
+    from_to_requires_4
+    slice_aggregate_all_hold
+    all_hold_requires
     returns)

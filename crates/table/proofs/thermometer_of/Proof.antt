@@ -9,49 +9,49 @@ mul_at c = search rules
 add_at : tie.Need-overflow-add-at
 add_at c = search rules
 
-shared-slice-read-t6 : tie.Need-shared-slice-read-t6
-shared-slice-read-t6 c = search rules
+shared_slice_read_t6 : tie.Need-shared-slice-read-t6
+shared_slice_read_t6 c = search rules
 
-add-u32-at : tie.Need-overflow-add-u32-at
-add-u32-at c = search rules
+add_u32_at : tie.Need-overflow-add-u32-at
+add_u32_at c = search rules
 
-u32-at-requires : tie.Need-u32-at-requires
-u32-at-requires c κs = search rules
+u32_at_requires : tie.Need-u32-at-requires
+u32_at_requires c κs = search rules
 
-add-u32-at-2 : tie.Need-overflow-add-u32-at-2
-add-u32-at-2 c = search rules
+add_u32_at_2 : tie.Need-overflow-add-u32-at-2
+add_u32_at_2 c = search rules
 
-u32-at-requires-2 : tie.Need-u32-at-requires-2
-u32-at-requires-2 c κs = search rules
+u32_at_requires_2 : tie.Need-u32-at-requires-2
+u32_at_requires_2 c κs = search rules
 
-add-u32-at-3 : tie.Need-overflow-add-u32-at-3
-add-u32-at-3 c = search rules
+add_u32_at_3 : tie.Need-overflow-add-u32-at-3
+add_u32_at_3 c = search rules
 
-u32-at-requires-3 : tie.Need-u32-at-requires-3
-u32-at-requires-3 c κs = search rules
+u32_at_requires_3 : tie.Need-u32-at-requires-3
+u32_at_requires_3 c κs = search rules
 
-add-u32-at-4 : tie.Need-overflow-add-u32-at-4
-add-u32-at-4 c = search rules
+add_u32_at_4 : tie.Need-overflow-add-u32-at-4
+add_u32_at_4 c = search rules
 
-u32-at-requires-4 : tie.Need-u32-at-requires-4
-u32-at-requires-4 c κs = search rules
+u32_at_requires_4 : tie.Need-u32-at-requires-4
+u32_at_requires_4 c κs = search rules
 
 returns : tie.Need-returns
 returns c = rw (c.before.before.before.u32-at.ensures, c.before.before.u32-at2.ensures, c.before.u32-at3.ensures, c.u32-at4.ensures)
 
-pub thermometer-of-spec : {M : Type 1} → statement M
-thermometer-of-spec =
+pub thermometer_of_spec : {M : Type 1} → statement M
+thermometer_of_spec =
     tie.close
     (tie.spec
     mul_at
     add_at
-    shared-slice-read-t6
-    add-u32-at
-    u32-at-requires
-    add-u32-at-2
-    u32-at-requires-2
-    add-u32-at-3
-    u32-at-requires-3
-    add-u32-at-4
-    u32-at-requires-4
+    shared_slice_read_t6
+    add_u32_at
+    u32_at_requires
+    add_u32_at_2
+    u32_at_requires_2
+    add_u32_at_3
+    u32_at_requires_3
+    add_u32_at_4
+    u32_at_requires_4
     returns)

@@ -7,17 +7,17 @@ use native.Mathlib.Omega.{arith}
 use lib.IntN.{pos}
 use borrow.Author.Rules.{rules}
 use Rattle.integers.specs.Rounding.{floor}
-use Rattle.integers.proofs.Machine.{small-fits, natural-reads-back}
+use Rattle.integers.proofs.Machine.{small_fits, natural_reads_back}
 use Rattle.thermometer.specs.Rule.{M}
-use Rattle.integers.proofs.Naturals.{natural-difference}
+use Rattle.integers.proofs.Naturals.{natural_difference}
 use Rattle.thermometer.proofs.measured_ratio.Statement.{statement}
 use Rattle.thermometer.proofs.measured_ratio.Tie as tie
 
 -- M, where no difference is negative
-M-natural : (rpam r0 : ℕ) {pam offset count : ℕ} → offset ≤ pam → offset ≤ count
+M_natural : (rpam r0 : ℕ) {pam offset count : ℕ} → offset ≤ pam → offset ≤ count
     → pos (rpam * (count - offset) * 16777216 / ((pam - offset) * r0)) ≡ M rpam r0 pam offset count
 unfolding M floor
-M-natural rpam r0 h k = rw (natural-difference h, natural-difference k)
+M_natural rpam r0 h k = rw (natural_difference h, natural_difference k)
 
 record Small (rpam r0 pam offset count : ℕ) : Type 0 where
   measured : rpam * (count - offset) < 9223372036854775808
@@ -27,13 +27,13 @@ record Small (rpam r0 pam offset count : ℕ) : Type 0 where
   quotient : rpam * (count - offset) * 16777216 / ((pam - offset) * r0) < 9223372036854775808
 
 small : (rpam r0 pam offset count : ℕ) → rpam ≤ 4000000 → 0 < r0 → r0 ≤ 4000000 → offset < pam → pam < 65536 → count < 65536 → Small rpam r0 pam offset count
-small rpam r0 pam offset count rpam-high r0-above r0-high span pam-high count-high =
+small rpam r0 pam offset count rpam-high r0_above r0-high span pam-high count_high =
     let above-high : count - offset ≤ 65535 = omega arith in
     let span-high : pam - offset ≤ 65535 = omega arith in
     let span-above : 0 < pam - offset = omega arith in
     let product_high : rpam * (count - offset) ≤ 4000000 * 65535 = mul-le-mul rpam-high above-high in
     let divisor-high : (pam - offset) * r0 ≤ 65535 * 4000000 = mul-le-mul span-high r0-high in
-    let divisor-positive : 0 < (pam - offset) * r0 = mul-pos span-above r0-above in
+    let divisor-positive : 0 < (pam - offset) * r0 = mul-pos span-above r0_above in
     omega (arith, div-le_self (rpam * (count - offset) * 16777216) ((pam - offset) * r0))
 
 small_at : (s : tie.Start) → Small s.args.rpam s.args.r0 s.args.pam s.args.offset s.args.count
@@ -42,49 +42,49 @@ small_at s =
     small s.args.rpam s.args.r0 s.args.pam s.args.offset s.args.count
     p.0 p.1 p.2 p.3 s.ranges.pam.fits s.ranges.count.fits
 
-sub-above : tie.Need-overflow-sub-above
-sub-above c = search rules
+sub_above : tie.Need-overflow-sub-above
+sub_above c = search rules
 
-cast-above : tie.Need-overflow-cast-above
-cast-above c = search rules
+cast_above : tie.Need-overflow-cast-above
+cast_above c = search rules
 
-sub-span : tie.Need-overflow-sub-span
-sub-span c = search rules
+sub_span : tie.Need-overflow-sub-span
+sub_span c = search rules
 
-cast-span : tie.Need-overflow-cast-span
-cast-span c = search rules
+cast_span : tie.Need-overflow-cast-span
+cast_span c = search rules
 
-mul-result : tie.Need-overflow-mul-result
-mul-result c = omega (arith, small_at c)
+mul_result : tie.Need-overflow-mul-result
+mul_result c = omega (arith, small_at c)
 
-mul-result-2 : tie.Need-overflow-mul-result-2
-mul-result-2 c = omega (arith, small_at c)
+mul_result_2 : tie.Need-overflow-mul-result-2
+mul_result_2 c = omega (arith, small_at c)
 
-mul-result-3 : tie.Need-overflow-mul-result-3
-mul-result-3 c = omega (arith, small_at c)
+mul_result_3 : tie.Need-overflow-mul-result-3
+mul_result_3 c = omega (arith, small_at c)
 
-div-result : tie.Need-nonzero-div-result
-div-result c = (small_at c).divisor-above
+div_result : tie.Need-nonzero-div-result
+div_result c = (small_at c).divisor-above
 
-cast-result : tie.Need-overflow-cast-result
-cast-result c = small-fits _ (small_at c).quotient
+cast_result : tie.Need-overflow-cast-result
+cast_result c = small_fits _ (small_at c).quotient
 
 returns : tie.Need-returns
 returns c =
     let a = c.args in
-    rw (natural-reads-back _ (small_at c).quotient) (M-natural a.rpam a.r0 (omega arith) c.requires.4)
+    rw (natural_reads_back _ (small_at c).quotient) (M_natural a.rpam a.r0 (omega arith) c.requires.4)
 
-pub measured-ratio-spec : {M : Type 1} → statement M
-measured-ratio-spec =
+pub measured_ratio_spec : {M : Type 1} → statement M
+measured_ratio_spec =
     tie.close
     (tie.spec
-    sub-above
-    cast-above
-    sub-span
-    cast-span
-    mul-result
-    mul-result-2
-    mul-result-3
-    div-result
-    cast-result
+    sub_above
+    cast_above
+    sub_span
+    cast_span
+    mul_result
+    mul_result_2
+    mul_result_3
+    div_result
+    cast_result
     returns)

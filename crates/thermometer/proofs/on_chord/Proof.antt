@@ -6,11 +6,11 @@ use mir.Syntax.{w64}
 use mir.Val.{to_z, of_z}
 use borrow.Author.Rules.{rules}
 use Rattle.integers.specs.Rounding.{floor}
-use Rattle.integers.proofs.Machine.{reads-back, result-reads-back}
+use Rattle.integers.proofs.Machine.{reads_back, result_reads_back}
 use Rattle.thermometer.specs.Rule.{F}
-use Rattle.thermometer.specs.Steps.{onChord}
-use Rattle.thermometer.proofs.Bounds.{t-fits}
-use Rattle.thermometer.proofs.Search.{missing-fits, chord-numerator-fits, chord-rise-fits, chord-rises, on-chord-fits}
+use Rattle.thermometer.specs.Steps.{on_chord}
+use Rattle.thermometer.proofs.Bounds.{t_fits}
+use Rattle.thermometer.proofs.Search.{missing_fits, chord_numerator_fits, chord_rise_fits, chord_rises, on_chord_fits}
 use Rattle.thermometer.proofs.on_chord.Statement.{statement}
 use Rattle.thermometer.proofs.on_chord.Tie as tie
 
@@ -26,98 +26,98 @@ quotient s = floor ((s.args.m -ℤ from s) *ℤ pos 2048) (to s -ℤ from s)
 
 -- ---- what the machine reads of them
 module _ (s : tie.Start) where
-  reads-m : to_z w64 (of_z w64 s.args.m) ≡ s.args.m
-  reads-m = reads-back s.ranges.m
+  reads_m : to_z w64 (of_z w64 s.args.m) ≡ s.args.m
+  reads_m = reads_back s.ranges.m
 
-  reads-t : to_z w64 (of_z w64 s.args.t) ≡ s.args.t
-  reads-t = reads-back s.fits.t
+  reads_t : to_z w64 (of_z w64 s.args.t) ≡ s.args.t
+  reads_t = reads_back s.fits.t
 
   reads_end : to_z w64 (of_z w64 (s.args.t +ℤ pos 2048)) ≡ s.args.t +ℤ pos 2048
-  reads_end = reads-back (t-fits s.pre.3)
+  reads_end = reads_back (t_fits s.pre.3)
 
-  reads-missing : to_z w64 (of_z w64 (s.args.m -ℤ from s)) ≡ s.args.m -ℤ from s
-  reads-missing = reads-back (missing-fits s.pre.0 s.pre.2 s.pre.3 s.pre.1)
+  reads_missing : to_z w64 (of_z w64 (s.args.m -ℤ from s)) ≡ s.args.m -ℤ from s
+  reads_missing = reads_back (missing_fits s.pre.0 s.pre.2 s.pre.3 s.pre.1)
 
-  reads-numerator : to_z w64 (of_z w64 ((s.args.m -ℤ from s) *ℤ pos 2048)) ≡ (s.args.m -ℤ from s) *ℤ pos 2048
-  reads-numerator = reads-back (chord-numerator-fits s.pre.0 s.pre.2 s.pre.3 s.pre.1)
+  reads_numerator : to_z w64 (of_z w64 ((s.args.m -ℤ from s) *ℤ pos 2048)) ≡ (s.args.m -ℤ from s) *ℤ pos 2048
+  reads_numerator = reads_back (chord_numerator_fits s.pre.0 s.pre.2 s.pre.3 s.pre.1)
 
-  reads-rise : to_z w64 (of_z w64 (to s -ℤ from s)) ≡ to s -ℤ from s
-  reads-rise = reads-back (chord-rise-fits s.pre.0 s.pre.2 s.pre.3)
+  reads_rise : to_z w64 (of_z w64 (to s -ℤ from s)) ≡ to s -ℤ from s
+  reads_rise = reads_back (chord_rise_fits s.pre.0 s.pre.2 s.pre.3)
 
-  reads-sum : to_z w64 (of_z w64 (s.args.t +ℤ quotient s)) ≡ s.args.t +ℤ quotient s
-  reads-sum = reads-back (on-chord-fits s.pre.0 s.pre.2 s.pre.3 s.pre.1)
+  reads_sum : to_z w64 (of_z w64 (s.args.t +ℤ quotient s)) ≡ s.args.t +ℤ quotient s
+  reads_sum = reads_back (on_chord_fits s.pre.0 s.pre.2 s.pre.3 s.pre.1)
 
 -- ---- what each call gives
-reads-from : (c : tie.After-ratio) → to_z w64 (of_z w64 c.ratio.result) ≡ from c.before
-reads-from c = result-reads-back c.ratio.result c.ratio.type-inv ∙ rw (reads-t c.before) at c.ratio.ensures
+reads_from : (c : tie.After-ratio) → to_z w64 (of_z w64 c.ratio.result) ≡ from c.before
+reads_from c = result_reads_back c.ratio.result c.ratio.type-inv ∙ rw (reads_t c.before) at c.ratio.ensures
 
-reads-to : (c : tie.After-ratio2) → to_z w64 (of_z w64 c.ratio2.result) ≡ to c.before.before
-reads-to c =
+reads_to : (c : tie.After-ratio2) → to_z w64 (of_z w64 c.ratio2.result) ≡ to c.before.before
+reads_to c =
     let s = c.before.before in
-    result-reads-back c.ratio2.result c.ratio2.type-inv ∙ rw (reads-t s, reads_end s) at c.ratio2.ensures
+    result_reads_back c.ratio2.result c.ratio2.type-inv ∙ rw (reads_t s, reads_end s) at c.ratio2.ensures
 
-reads-quotient : (c : tie.After-floor-div) → to_z w64 (of_z w64 c.floor-div.result) ≡ quotient c.before.before.before
-reads-quotient c =
+reads_quotient : (c : tie.After-floor-div) → to_z w64 (of_z w64 c.floor-div.result) ≡ quotient c.before.before.before
+reads_quotient c =
     let s = c.before.before.before in
-    result-reads-back c.floor-div.result c.floor-div.type-inv
-    ∙ rw (reads-m s, reads-from c.before.before, reads-missing s, reads-numerator s, reads-to c.before, reads-rise s) at c.floor-div.ensures
+    result_reads_back c.floor-div.result c.floor-div.type-inv
+    ∙ rw (reads_m s, reads_from c.before.before, reads_missing s, reads_numerator s, reads_to c.before, reads_rise s) at c.floor-div.ensures
 
 -- ---- the needs
-ratio-requires : tie.Need-ratio-requires
-ratio-requires c κs = search rules
+ratio_requires : tie.Need-ratio-requires
+ratio_requires c κs = search rules
 
-add-ratio : tie.Need-overflow-add-ratio
-add-ratio c = let s = c.before in rw (reads-t s) (t-fits s.requires.3)
+add_ratio : tie.Need-overflow-add-ratio
+add_ratio c = let s = c.before in rw (reads_t s) (t_fits s.requires.3)
 
-ratio-requires-2 : tie.Need-ratio-requires-2
-ratio-requires-2 c κs = let s = c.before in (s.requires.0, rw (reads-t s, reads_end s) s.requires.3)
+ratio_requires_2 : tie.Need-ratio-requires-2
+ratio_requires_2 c κs = let s = c.before in (s.requires.0, rw (reads_t s, reads_end s) s.requires.3)
 
-sub-floor-div : tie.Need-overflow-sub-floor-div
-sub-floor-div c =
+sub_floor_div : tie.Need-overflow-sub-floor-div
+sub_floor_div c =
     let s = c.before.before in
-    rw (reads-m s, reads-from c.before) (missing-fits s.requires.0 s.requires.2 s.requires.3 s.requires.1)
+    rw (reads_m s, reads_from c.before) (missing_fits s.requires.0 s.requires.2 s.requires.3 s.requires.1)
 
-mul-floor-div : tie.Need-overflow-mul-floor-div
-mul-floor-div c =
+mul_floor_div : tie.Need-overflow-mul-floor-div
+mul_floor_div c =
     let s = c.before.before in
-    rw (reads-m s, reads-from c.before, reads-missing s) (chord-numerator-fits s.requires.0 s.requires.2 s.requires.3 s.requires.1)
+    rw (reads_m s, reads_from c.before, reads_missing s) (chord_numerator_fits s.requires.0 s.requires.2 s.requires.3 s.requires.1)
 
-sub-floor-div-2 : tie.Need-overflow-sub-floor-div-2
-sub-floor-div-2 c =
+sub_floor_div_2 : tie.Need-overflow-sub-floor-div-2
+sub_floor_div_2 c =
     let s = c.before.before in
-    rw (reads-to c, reads-from c.before) (chord-rise-fits s.requires.0 s.requires.2 s.requires.3)
+    rw (reads_to c, reads_from c.before) (chord_rise_fits s.requires.0 s.requires.2 s.requires.3)
 
-floor-div-requires : tie.Need-floor-div-requires
-floor-div-requires c κs =
+floor_div_requires : tie.Need-floor-div-requires
+floor_div_requires c κs =
     let s = c.before.before in
-    rw (reads-to c, reads-from c.before, reads-rise s) (chord-rises s.requires.0 s.requires.2 s.requires.3)
+    rw (reads_to c, reads_from c.before, reads_rise s) (chord_rises s.requires.0 s.requires.2 s.requires.3)
 
-add-u : tie.Need-overflow-add-u
-add-u c =
+add_u : tie.Need-overflow-add-u
+add_u c =
     let s = c.before.before.before in
-    rw (reads-t s, reads-quotient c) (on-chord-fits s.requires.0 s.requires.2 s.requires.3 s.requires.1)
+    rw (reads_t s, reads_quotient c) (on_chord_fits s.requires.0 s.requires.2 s.requires.3 s.requires.1)
 
-held-between-requires : tie.Need-held-between-requires
-held-between-requires c κs = search rules
+held_between_requires : tie.Need-held-between-requires
+held_between_requires c κs = search rules
 
 returns : tie.Need-returns
-unfolding onChord
+unfolding on_chord
 returns c =
     let s = c.before.before.before.before in
-    result-reads-back c.held-between.result c.held-between.type-inv
-    ∙ rw (reads-t s, reads-quotient c.before, reads-sum s) at c.held-between.ensures
+    result_reads_back c.held-between.result c.held-between.type-inv
+    ∙ rw (reads_t s, reads_quotient c.before, reads_sum s) at c.held-between.ensures
 
-pub on-chord-spec : {M : Type 1} → statement M
-on-chord-spec =
+pub on_chord_spec : {M : Type 1} → statement M
+on_chord_spec =
     tie.close
     (tie.spec
-    ratio-requires
-    add-ratio
-    ratio-requires-2
-    sub-floor-div
-    mul-floor-div
-    sub-floor-div-2
-    floor-div-requires
-    add-u
-    held-between-requires
+    ratio_requires
+    add_ratio
+    ratio_requires_2
+    sub_floor_div
+    mul_floor_div
+    sub_floor_div_2
+    floor_div_requires
+    add_u
+    held_between_requires
     returns)

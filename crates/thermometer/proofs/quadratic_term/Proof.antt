@@ -5,40 +5,40 @@ use lib.IntN.{pos}
 use mir.Syntax.{w64}
 use mir.Val.{to_z, of_z}
 use borrow.Author.Rules.{rules}
-use Rattle.integers.proofs.Machine.{reads-back, result-reads-back, natural-reads-back}
+use Rattle.integers.proofs.Machine.{reads_back, result_reads_back, natural_reads_back}
 use Rattle.thermometer.specs.Rule.{q, s1}
-use Rattle.thermometer.proofs.Bounds.{delta-q-fits}
+use Rattle.thermometer.proofs.Bounds.{delta_q_fits}
 use Rattle.thermometer.proofs.quadratic_term.Statement.{statement}
 use Rattle.thermometer.proofs.quadratic_term.Tie as tie
 
 module _ (s : tie.Start) where
-  reads-t : to_z w64 (of_z w64 s.args.t) ≡ s.args.t
-  reads-t = reads-back s.ranges.t
+  reads_t : to_z w64 (of_z w64 s.args.t) ≡ s.args.t
+  reads_t = reads_back s.ranges.t
 
-  reads-delta : to_z w64 s.args.delta ≡ pos s.args.delta
-  reads-delta = natural-reads-back s.args.delta (omega arith)
+  reads_delta : to_z w64 s.args.delta ≡ pos s.args.delta
+  reads_delta = natural_reads_back s.args.delta (omega arith)
 
-reads-q : (c : tie.After-q-at) → to_z w64 (of_z w64 c.q-at.result) ≡ q c.before.args.t
-reads-q c = result-reads-back c.q-at.result c.q-at.type-inv ∙ rw (reads-t c.before) at c.q-at.ensures
+reads_q : (c : tie.After-q-at) → to_z w64 (of_z w64 c.q-at.result) ≡ q c.before.args.t
+reads_q c = result_reads_back c.q-at.result c.q-at.type-inv ∙ rw (reads_t c.before) at c.q-at.ensures
 
-cast-floor-div : tie.Need-overflow-cast-floor-div
-cast-floor-div c = search rules
+cast_floor_div : tie.Need-overflow-cast-floor-div
+cast_floor_div c = search rules
 
-q-at-requires : tie.Need-q-at-requires
-q-at-requires c κs = rw (reads-t c) c.requires.1
+q_at_requires : tie.Need-q-at-requires
+q_at_requires c κs = rw (reads_t c) c.requires.1
 
-mul-floor-div : tie.Need-overflow-mul-floor-div
-mul-floor-div c = let s = c.before in rw (reads-delta s, reads-q c) (delta-q-fits s.requires.1 s.requires.0)
+mul_floor_div : tie.Need-overflow-mul-floor-div
+mul_floor_div c = let s = c.before in rw (reads_delta s, reads_q c) (delta_q_fits s.requires.1 s.requires.0)
 
-floor-div-requires : tie.Need-floor-div-requires
-floor-div-requires c κs = search rules
+floor_div_requires : tie.Need-floor-div-requires
+floor_div_requires c κs = search rules
 
 returns : tie.Need-returns
 unfolding s1
 returns c =
     let s = c.before.before in
-    result-reads-back c.floor-div.result c.floor-div.type-inv
-    ∙ rw (reads-delta s, reads-q c.before, reads-back (delta-q-fits s.requires.1 s.requires.0)) at c.floor-div.ensures
+    result_reads_back c.floor-div.result c.floor-div.type-inv
+    ∙ rw (reads_delta s, reads_q c.before, reads_back (delta_q_fits s.requires.1 s.requires.0)) at c.floor-div.ensures
 
-pub quadratic-term-spec : {M : Type 1} → statement M
-quadratic-term-spec = tie.close (tie.spec cast-floor-div q-at-requires mul-floor-div floor-div-requires returns)
+pub quadratic_term_spec : {M : Type 1} → statement M
+quadratic_term_spec = tie.close (tie.spec cast_floor_div q_at_requires mul_floor_div floor_div_requires returns)

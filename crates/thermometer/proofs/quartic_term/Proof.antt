@@ -8,27 +8,27 @@ use lib.Signed.{lt_z}
 use mir.Syntax.{w64}
 use mir.Val.{to_z, of_z}
 use borrow.Author.Rules.{rules}
-use Rattle.integers.proofs.Order.{leZ-true, leZ-false, below-test, at-most-fails}
-use Rattle.integers.proofs.Machine.{reads-back, result-reads-back, natural-reads-back}
+use Rattle.integers.proofs.Order.{le_z_true, le_z_false, below_test, at_most_fails}
+use Rattle.integers.proofs.Machine.{reads_back, result_reads_back, natural_reads_back}
 use Rattle.thermometer.specs.Rule.{q, y, w, h, s2}
-use Rattle.thermometer.proofs.Bounds.{square-fits, yw-fits, beta-h-fits}
+use Rattle.thermometer.proofs.Bounds.{square_fits, yw_fits, beta_h_fits}
 use Rattle.thermometer.proofs.quartic_term.Statement.{statement}
 use Rattle.thermometer.proofs.quartic_term.Tie as tie
 
 module _ (s : tie.Start) where
-  reads-t : to_z w64 (of_z w64 s.args.t) ≡ s.args.t
-  reads-t = reads-back s.ranges.t
+  reads_t : to_z w64 (of_z w64 s.args.t) ≡ s.args.t
+  reads_t = reads_back s.ranges.t
 
-  reads-beta : to_z w64 s.args.beta ≡ pos s.args.beta
-  reads-beta = natural-reads-back s.args.beta (omega arith)
+  reads_beta : to_z w64 s.args.beta ≡ pos s.args.beta
+  reads_beta = natural_reads_back s.args.beta (omega arith)
 
-not-below : (c : tie.Then1) → lt_z c.before.args.t (pos 0) ≡ false
-not-below c =
-    let t = c.before.args.t in at-most-fails {x = pos 0} {y = t} (leZ-true {y = t} (rw (reads-t c.before) at c.if1.true))
+not_below : (c : tie.Then1) → lt_z c.before.args.t (pos 0) ≡ false
+not_below c =
+    let t = c.before.args.t in at_most_fails {x = pos 0} {y = t} (le_z_true {y = t} (rw (reads_t c.before) at c.if1.true))
 
 is_below : (c : tie.Else1) → lt_z c.before.args.t (pos 0) ≡ true
 is_below c =
-    let t = c.before.args.t in below-test {x = t} {y = pos 0} (leZ-false {y = t} (rw (reads-t c.before) at c.if1.false))
+    let t = c.before.args.t in below_test {x = t} {y = pos 0} (le_z_false {y = t} (rw (reads_t c.before) at c.if1.false))
 
 -- ---- what each call gives
 -- the function's entry, from the place after each call
@@ -47,77 +47,77 @@ entry3 c = entry2 c.before
 abbrev entry4 : tie.After-floor-div4 → tie.Start
 entry4 c = entry3 c.before
 
-reads-q : (c : tie.After-q-at) → to_z w64 (of_z w64 c.q-at.result) ≡ q (entry c).args.t
-reads-q c = result-reads-back c.q-at.result c.q-at.type-inv ∙ rw (reads-t (entry c)) at c.q-at.ensures
+reads_q : (c : tie.After-q-at) → to_z w64 (of_z w64 c.q-at.result) ≡ q (entry c).args.t
+reads_q c = result_reads_back c.q-at.result c.q-at.type-inv ∙ rw (reads_t (entry c)) at c.q-at.ensures
 
 reads_y : (c : tie.After-floor-div) → to_z w64 (of_z w64 c.floor-div.result) ≡ y (entry1 c).args.t
 unfolding y
-reads_y c = result-reads-back c.floor-div.result c.floor-div.type-inv ∙ rw (reads-q c.before) at c.floor-div.ensures
+reads_y c = result_reads_back c.floor-div.result c.floor-div.type-inv ∙ rw (reads_q c.before) at c.floor-div.ensures
 
-reads-w : (c : tie.After-floor-div2) → to_z w64 (of_z w64 c.floor-div2.result) ≡ w (entry2 c).args.t
+reads_w : (c : tie.After-floor-div2) → to_z w64 (of_z w64 c.floor-div2.result) ≡ w (entry2 c).args.t
 unfolding w
-reads-w c =
+reads_w c =
     let s = entry2 c in
-    result-reads-back c.floor-div2.result c.floor-div2.type-inv ∙ rw (reads-t s, reads-back (square-fits s.pre.1)) at c.floor-div2.ensures
+    result_reads_back c.floor-div2.result c.floor-div2.type-inv ∙ rw (reads_t s, reads_back (square_fits s.pre.1)) at c.floor-div2.ensures
 
-reads-h : (c : tie.After-floor-div3) → to_z w64 (of_z w64 c.floor-div3.result) ≡ h (entry3 c).args.t
+reads_h : (c : tie.After-floor-div3) → to_z w64 (of_z w64 c.floor-div3.result) ≡ h (entry3 c).args.t
 unfolding h
-reads-h c =
-    result-reads-back c.floor-div3.result c.floor-div3.type-inv
-    ∙ rw (reads_y c.before.before, reads-w c.before, reads-back (yw-fits (entry3 c).requires.1)) at c.floor-div3.ensures
+reads_h c =
+    result_reads_back c.floor-div3.result c.floor-div3.type-inv
+    ∙ rw (reads_y c.before.before, reads_w c.before, reads_back (yw_fits (entry3 c).requires.1)) at c.floor-div3.ensures
 
 -- ---- the needs
 returns : tie.Need-returns
 unfolding s2
-returns c = rw (not-below c)
+returns c = rw (not_below c)
 
-q-at-requires : tie.Need-q-at-requires
-q-at-requires c κs = rw (reads-t c.before) c.before.requires.1
+q_at_requires : tie.Need-q-at-requires
+q_at_requires c κs = rw (reads_t c.before) c.before.requires.1
 
-floor-div-requires : tie.Need-floor-div-requires
-floor-div-requires c κs = search rules
+floor_div_requires : tie.Need-floor-div-requires
+floor_div_requires c κs = search rules
 
-mul-floor-div : tie.Need-overflow-mul-floor-div
-mul-floor-div c = rw (reads-t (entry1 c)) (square-fits (entry1 c).requires.1)
+mul_floor_div : tie.Need-overflow-mul-floor-div
+mul_floor_div c = rw (reads_t (entry1 c)) (square_fits (entry1 c).requires.1)
 
-floor-div-requires-2 : tie.Need-floor-div-requires-2
-floor-div-requires-2 c κs = search rules
+floor_div_requires_2 : tie.Need-floor-div-requires-2
+floor_div_requires_2 c κs = search rules
 
-mul-floor-div-2 : tie.Need-overflow-mul-floor-div-2
-mul-floor-div-2 c = rw (reads_y c.before, reads-w c) (yw-fits (entry2 c).requires.1)
+mul_floor_div_2 : tie.Need-overflow-mul-floor-div-2
+mul_floor_div_2 c = rw (reads_y c.before, reads_w c) (yw_fits (entry2 c).requires.1)
 
-floor-div-requires-3 : tie.Need-floor-div-requires-3
-floor-div-requires-3 c κs = search rules
+floor_div_requires_3 : tie.Need-floor-div-requires-3
+floor_div_requires_3 c κs = search rules
 
-cast-floor-div : tie.Need-overflow-cast-floor-div
-cast-floor-div c = search rules
+cast_floor_div : tie.Need-overflow-cast-floor-div
+cast_floor_div c = search rules
 
-mul-floor-div-3 : tie.Need-overflow-mul-floor-div-3
-mul-floor-div-3 c = let s = entry3 c in rw (reads-beta s, reads-h c) (beta-h-fits s.pre.1 s.pre.0)
+mul_floor_div_3 : tie.Need-overflow-mul-floor-div-3
+mul_floor_div_3 c = let s = entry3 c in rw (reads_beta s, reads_h c) (beta_h_fits s.pre.1 s.pre.0)
 
-floor-div-requires-4 : tie.Need-floor-div-requires-4
-floor-div-requires-4 c κs = search rules
+floor_div_requires_4 : tie.Need-floor-div-requires-4
+floor_div_requires_4 c κs = search rules
 
-returns-2 : tie.Need-returns-2
+returns_2 : tie.Need-returns-2
 unfolding s2
-returns-2 c =
+returns_2 c =
     let s = entry4 c in
     rw (is_below c.before.before.before.before.before)
-    (result-reads-back c.floor-div4.result c.floor-div4.type-inv
-    ∙ rw (reads-beta s, reads-h c.before, reads-back (beta-h-fits s.pre.1 s.pre.0)) at c.floor-div4.ensures)
+    (result_reads_back c.floor-div4.result c.floor-div4.type-inv
+    ∙ rw (reads_beta s, reads_h c.before, reads_back (beta_h_fits s.pre.1 s.pre.0)) at c.floor-div4.ensures)
 
-pub quartic-term-spec : {M : Type 1} → statement M
-quartic-term-spec =
+pub quartic_term_spec : {M : Type 1} → statement M
+quartic_term_spec =
     tie.close
     (tie.spec
     returns
-    q-at-requires
-    floor-div-requires
-    mul-floor-div
-    floor-div-requires-2
-    mul-floor-div-2
-    floor-div-requires-3
-    cast-floor-div
-    mul-floor-div-3
-    floor-div-requires-4
-    returns-2)
+    q_at_requires
+    floor_div_requires
+    mul_floor_div
+    floor_div_requires_2
+    mul_floor_div_2
+    floor_div_requires_3
+    cast_floor_div
+    mul_floor_div_3
+    floor_div_requires_4
+    returns_2)

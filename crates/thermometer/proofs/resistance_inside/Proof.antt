@@ -7,8 +7,8 @@ use Rattle.thermometer.proofs.resistance_inside.Tie as tie
 returns : tie.Need-returns
 returns c = rw (lt-leb 1000 c.before.args.r (omega arith))
 
-returns-2 : tie.Need-returns-2
-returns-2 c = rw (le-leb 1000 c.before.args.r (omega arith))
+returns_2 : tie.Need-returns-2
+returns_2 c = rw (le-leb 1000 c.before.args.r (omega arith))
 
-pub resistance-inside-spec : {M : Type 1} → statement M
-resistance-inside-spec = tie.close (tie.spec returns returns-2)
+pub resistance_inside_spec : {M : Type 1} → statement M
+resistance_inside_spec = tie.close (tie.spec returns returns_2)

@@ -9,13 +9,13 @@ use mir.Syntax.{w64}
 use mir.Val.{to_z, of_z}
 use borrow.Author.Rules.{rules}
 use borrow.Author.Tests.{not-true, not-false}
-use Rattle.integers.proofs.Order.{ltZ-true, ltZ-false}
-use Rattle.integers.proofs.Machine.{result-reads-back}
-use Rattle.thermometer.specs.Rule.{M, F, lowestUnits, highestUnits}
+use Rattle.integers.proofs.Order.{lt_z_true, lt_z_false}
+use Rattle.integers.proofs.Machine.{result_reads_back}
+use Rattle.thermometer.specs.Rule.{M, F, lowest_units, highest_units}
 use Rattle.thermometer.specs.Ranges.{Admissible}
-use Rattle.thermometer.specs.Reading.{units, resistanceInside, coefficientsInside}
-use Rattle.thermometer.proofs.Ranges.{resistance-range, coefficients-admissible}
-use Rattle.thermometer.proofs.ReadingLaws.{reading-coefficient-outside, reading-pam-not-above, reading-count-below, reading-ratio-below, reading-ratio-above, reading-units}
+use Rattle.thermometer.specs.Reading.{units, resistance_inside, coefficients_inside}
+use Rattle.thermometer.proofs.Ranges.{resistance_range, coefficients_admissible}
+use Rattle.thermometer.proofs.ReadingLaws.{reading_coefficient_outside, reading_pam_not_above, reading_count_below, reading_ratio_below, reading_ratio_above, reading_units}
 use Rattle.thermometer.proofs.thermometer.Statement.{statement}
 use Rattle.thermometer.proofs.thermometer.Tie as tie
 
@@ -36,117 +36,117 @@ abbrev entry6 : tie.After-ratio2 → tie.Start
 entry6 c = entry5 c.before.before
 
 -- ---- the tests of the ranges
-rpam-outside : (c : tie.Then1) → resistanceInside (entry1 c.before).args.rpam ≡ false
-rpam-outside c = sym c.before.resistance-inside.ensures ∙ not-true c.before.resistance-inside.result c.if1.true
+rpam_outside : (c : tie.Then1) → resistance_inside (entry1 c.before).args.rpam ≡ false
+rpam_outside c = sym c.before.resistance-inside.ensures ∙ not-true c.before.resistance-inside.result c.if1.true
 
-rpam-inside : (c : tie.Else1) → resistanceInside (entry1 c.before).args.rpam ≡ true
-rpam-inside c = sym c.before.resistance-inside.ensures ∙ not-false c.before.resistance-inside.result c.if1.false
+rpam_inside : (c : tie.Else1) → resistance_inside (entry1 c.before).args.rpam ≡ true
+rpam_inside c = sym c.before.resistance-inside.ensures ∙ not-false c.before.resistance-inside.result c.if1.false
 
-coefficients-outside : (c : tie.Then2) → let a = (entry2 c.before).args in coefficientsInside a.r0 a.alpha a.delta a.beta ≡ false
-coefficients-outside c = sym c.before.coefficients-inside.ensures ∙ not-true c.before.coefficients-inside.result c.if2.true
+coefficients_outside : (c : tie.Then2) → let a = (entry2 c.before).args in coefficients_inside a.r0 a.alpha a.delta a.beta ≡ false
+coefficients_outside c = sym c.before.coefficients-inside.ensures ∙ not-true c.before.coefficients-inside.result c.if2.true
 
-coefficients-are-inside : (c : tie.Else2) → let a = (entry2 c.before).args in coefficientsInside a.r0 a.alpha a.delta a.beta ≡ true
-coefficients-are-inside c = sym c.before.coefficients-inside.ensures ∙ not-false c.before.coefficients-inside.result c.if2.false
+coefficients_are_inside : (c : tie.Else2) → let a = (entry2 c.before).args in coefficients_inside a.r0 a.alpha a.delta a.beta ≡ true
+coefficients_are_inside c = sym c.before.coefficients-inside.ensures ∙ not-false c.before.coefficients-inside.result c.if2.false
 
-all-inside : (c : tie.Else2) → let a = (entry2 c.before).args in (resistanceInside a.rpam && coefficientsInside a.r0 a.alpha a.delta a.beta) ≡ true
-all-inside c = rw (rpam-inside c.before.before) (coefficients-are-inside c)
+all_inside : (c : tie.Else2) → let a = (entry2 c.before).args in (resistance_inside a.rpam && coefficients_inside a.r0 a.alpha a.delta a.beta) ≡ true
+all_inside c = rw (rpam_inside c.before.before) (coefficients_are_inside c)
 
-r0-and-coefficients : (c : tie.Else2) → let a = (entry2 c.before).args in (1000 ≤ a.r0) × (a.r0 ≤ 4000000) × Admissible a.alpha a.delta a.beta
-r0-and-coefficients c = let a = (entry2 c.before).args in coefficients-admissible a.r0 a.alpha a.delta a.beta (coefficients-are-inside c)
+r0_and_coefficients : (c : tie.Else2) → let a = (entry2 c.before).args in (1000 ≤ a.r0) × (a.r0 ≤ 4000000) × Admissible a.alpha a.delta a.beta
+r0_and_coefficients c = let a = (entry2 c.before).args in coefficients_admissible a.r0 a.alpha a.delta a.beta (coefficients_are_inside c)
 
 admissible4 : (c : tie.Else4) → let a = (entry4 c).args in Admissible a.alpha a.delta a.beta
-admissible4 c = (r0-and-coefficients c.before.before).2
+admissible4 c = (r0_and_coefficients c.before.before).2
 
 -- ---- the tests of M
-reads-M : (c : tie.After-measured-ratio) → let a = (entry4 c.before).args in to_z w64 (of_z w64 c.measured-ratio.result) ≡ M a.rpam a.r0 a.pam a.offset a.count
-reads-M c = result-reads-back c.measured-ratio.result c.measured-ratio.type-inv ∙ c.measured-ratio.ensures
+reads_M : (c : tie.After-measured-ratio) → let a = (entry4 c.before).args in to_z w64 (of_z w64 c.measured-ratio.result) ≡ M a.rpam a.r0 a.pam a.offset a.count
+reads_M c = result_reads_back c.measured-ratio.result c.measured-ratio.type-inv ∙ c.measured-ratio.ensures
 
-reads-lowest : (c : tie.After-ratio) → let a = (entry5 c).args in to_z w64 (of_z w64 c.ratio.result) ≡ F a.alpha a.delta a.beta lowestUnits
-reads-lowest c = result-reads-back c.ratio.result c.ratio.type-inv ∙ c.ratio.ensures
+reads_lowest : (c : tie.After-ratio) → let a = (entry5 c).args in to_z w64 (of_z w64 c.ratio.result) ≡ F a.alpha a.delta a.beta lowest_units
+reads_lowest c = result_reads_back c.ratio.result c.ratio.type-inv ∙ c.ratio.ensures
 
-reads-highest : (c : tie.After-ratio2) → let a = (entry6 c).args in to_z w64 (of_z w64 c.ratio2.result) ≡ F a.alpha a.delta a.beta highestUnits
-reads-highest c = result-reads-back c.ratio2.result c.ratio2.type-inv ∙ c.ratio2.ensures
+reads_highest : (c : tie.After-ratio2) → let a = (entry6 c).args in to_z w64 (of_z w64 c.ratio2.result) ≡ F a.alpha a.delta a.beta highest_units
+reads_highest c = result_reads_back c.ratio2.result c.ratio2.type-inv ∙ c.ratio2.ensures
 
-M-below : (c : tie.Then5) → let a = (entry5 c.before).args in M a.rpam a.r0 a.pam a.offset a.count <ℤ F a.alpha a.delta a.beta lowestUnits
-M-below c = ltZ-true (rw (reads-M c.before.before, reads-lowest c.before) at c.if5.true)
+M_below : (c : tie.Then5) → let a = (entry5 c.before).args in M a.rpam a.r0 a.pam a.offset a.count <ℤ F a.alpha a.delta a.beta lowest_units
+M_below c = lt_z_true (rw (reads_M c.before.before, reads_lowest c.before) at c.if5.true)
 
-M-not-below : (c : tie.Else5) → let a = (entry5 c.before).args in F a.alpha a.delta a.beta lowestUnits ≤ℤ M a.rpam a.r0 a.pam a.offset a.count
-M-not-below c = ltZ-false (rw (reads-M c.before.before, reads-lowest c.before) at c.if5.false)
+M_not_below : (c : tie.Else5) → let a = (entry5 c.before).args in F a.alpha a.delta a.beta lowest_units ≤ℤ M a.rpam a.r0 a.pam a.offset a.count
+M_not_below c = lt_z_false (rw (reads_M c.before.before, reads_lowest c.before) at c.if5.false)
 
-M-above : (c : tie.Then6) → let a = (entry6 c.before).args in F a.alpha a.delta a.beta highestUnits <ℤ M a.rpam a.r0 a.pam a.offset a.count
-M-above c = ltZ-true (rw (reads-M c.before.before.before.before, reads-highest c.before) at c.if6.true)
+M_above : (c : tie.Then6) → let a = (entry6 c.before).args in F a.alpha a.delta a.beta highest_units <ℤ M a.rpam a.r0 a.pam a.offset a.count
+M_above c = lt_z_true (rw (reads_M c.before.before.before.before, reads_highest c.before) at c.if6.true)
 
-M-not-above : (c : tie.Else6) → let a = (entry6 c.before).args in M a.rpam a.r0 a.pam a.offset a.count ≤ℤ F a.alpha a.delta a.beta highestUnits
-M-not-above c = ltZ-false (rw (reads-M c.before.before.before.before, reads-highest c.before) at c.if6.false)
+M_not_above : (c : tie.Else6) → let a = (entry6 c.before).args in M a.rpam a.r0 a.pam a.offset a.count ≤ℤ F a.alpha a.delta a.beta highest_units
+M_not_above c = lt_z_false (rw (reads_M c.before.before.before.before, reads_highest c.before) at c.if6.false)
 
 -- ---- the needs
-resistance-inside-requires : tie.Need-resistance-inside-requires
-resistance-inside-requires c κs = search rules
+resistance_inside_requires : tie.Need-resistance-inside-requires
+resistance_inside_requires c κs = search rules
 
 returns : tie.Need-returns
-returns c = sym (reading-coefficient-outside _ _ _ _ _ _ _ _ (rw (rpam-outside c)))
+returns c = sym (reading_coefficient_outside _ _ _ _ _ _ _ _ (rw (rpam_outside c)))
 
-coefficients-inside-requires : tie.Need-coefficients-inside-requires
-coefficients-inside-requires c κs = search rules
+coefficients_inside_requires : tie.Need-coefficients-inside-requires
+coefficients_inside_requires c κs = search rules
 
-returns-2 : tie.Need-returns-2
-returns-2 c = sym (reading-coefficient-outside _ _ _ _ _ _ _ _ (rw (rpam-inside c.before.before) (coefficients-outside c)))
+returns_2 : tie.Need-returns-2
+returns_2 c = sym (reading_coefficient_outside _ _ _ _ _ _ _ _ (rw (rpam_inside c.before.before) (coefficients_outside c)))
 
-returns-3 : tie.Need-returns-3
-returns-3 c = sym (reading-pam-not-above _ _ _ _ _ _ _ _ (all-inside c.before) (omega arith))
+returns_3 : tie.Need-returns-3
+returns_3 c = sym (reading_pam_not_above _ _ _ _ _ _ _ _ (all_inside c.before) (omega arith))
 
-returns-4 : tie.Need-returns-4
-returns-4 c = sym (reading-count-below _ _ _ _ _ _ _ _ (all-inside c.before.before) (omega arith) (omega arith))
+returns_4 : tie.Need-returns-4
+returns_4 c = sym (reading_count_below _ _ _ _ _ _ _ _ (all_inside c.before.before) (omega arith) (omega arith))
 
-measured-ratio-requires : tie.Need-measured-ratio-requires
-measured-ratio-requires c κs =
+measured_ratio_requires : tie.Need-measured-ratio-requires
+measured_ratio_requires c κs =
     let s = entry4 c in
-    let r0 = r0-and-coefficients c.before.before in
-    ((resistance-range s.args.rpam (rpam-inside c.before.before.before.before)).1, omega arith, r0.1, omega arith, omega arith)
+    let r0 = r0_and_coefficients c.before.before in
+    ((resistance_range s.args.rpam (rpam_inside c.before.before.before.before)).1, omega arith, r0.1, omega arith, omega arith)
 
-ratio-requires : tie.Need-ratio-requires
-ratio-requires c κs = (admissible4 c.before, record { low = le_z_yes tt; high = le_z_yes tt })
+ratio_requires : tie.Need-ratio-requires
+ratio_requires c κs = (admissible4 c.before, record { low = le_z_yes tt; high = le_z_yes tt })
 
-returns-5 : tie.Need-returns-5
-returns-5 c =
+returns_5 : tie.Need-returns-5
+returns_5 c =
     let d = c.before.before.before in
-    sym (reading-ratio-below _ _ _ _ _ _ _ _ (all-inside d.before.before) (omega arith) (omega arith) (M-below c))
+    sym (reading_ratio_below _ _ _ _ _ _ _ _ (all_inside d.before.before) (omega arith) (omega arith) (M_below c))
 
-ratio-requires-2 : tie.Need-ratio-requires-2
-ratio-requires-2 c κs = (admissible4 c.before.before.before, record { low = le_z_yes tt; high = le_z_yes tt })
+ratio_requires_2 : tie.Need-ratio-requires-2
+ratio_requires_2 c κs = (admissible4 c.before.before.before, record { low = le_z_yes tt; high = le_z_yes tt })
 
-returns-6 : tie.Need-returns-6
-returns-6 c =
+returns_6 : tie.Need-returns-6
+returns_6 c =
     let e = c.before.before in
     let d = e.before.before.before in
-    sym (reading-ratio-above _ _ _ _ _ _ _ _ (all-inside d.before.before) (omega arith) (omega arith) (M-not-below e) (M-above c))
+    sym (reading_ratio_above _ _ _ _ _ _ _ _ (all_inside d.before.before) (omega arith) (omega arith) (M_not_below e) (M_above c))
 
-greatest-units-requires : tie.Need-greatest-units-requires
-greatest-units-requires c κs =
+greatest_units_requires : tie.Need-greatest-units-requires
+greatest_units_requires c κs =
     let e = c.before.before in
-    (admissible4 e.before.before.before, rw (reads-M e.before.before) (M-not-below e))
+    (admissible4 e.before.before.before, rw (reads_M e.before.before) (M_not_below e))
 
-returns-7 : tie.Need-returns-7
-returns-7 c =
+returns_7 : tie.Need-returns-7
+returns_7 c =
     let e = c.before.before.before in
     let d = e.before.before.before in
-    ap units (result-reads-back c.greatest-units.result c.greatest-units.type-inv ∙ rw (reads-M e.before.before) at c.greatest-units.ensures)
-    ∙ sym (reading-units _ _ _ _ _ _ _ _ (all-inside d.before.before) (omega arith) (omega arith) (M-not-below e) (M-not-above c.before))
+    ap units (result_reads_back c.greatest-units.result c.greatest-units.type-inv ∙ rw (reads_M e.before.before) at c.greatest-units.ensures)
+    ∙ sym (reading_units _ _ _ _ _ _ _ _ (all_inside d.before.before) (omega arith) (omega arith) (M_not_below e) (M_not_above c.before))
 
-pub thermometer-spec : {M : Type 1} → statement M
-thermometer-spec =
+pub thermometer_spec : {M : Type 1} → statement M
+thermometer_spec =
     tie.close
     (tie.spec
-    resistance-inside-requires
+    resistance_inside_requires
     returns
-    coefficients-inside-requires
-    returns-2
-    returns-3
-    returns-4
-    measured-ratio-requires
-    ratio-requires
-    returns-5
-    ratio-requires-2
-    returns-6
-    greatest-units-requires
-    returns-7)
+    coefficients_inside_requires
+    returns_2
+    returns_3
+    returns_4
+    measured_ratio_requires
+    ratio_requires
+    returns_5
+    ratio_requires_2
+    returns_6
+    greatest_units_requires
+    returns_7)

@@ -1,4 +1,4 @@
--- `Summary::none` meets its contract: the literal -1.0 is the float of `noneDelivered`.
+-- `Summary::none` meets its contract: the literal -1.0 is the float of `none_delivered`.
 use mathlib.Core.Path.{refl}
 use lib.Ieee.{neg, of_bits}
 use Rattle.product.proofs.Summary.none.Statement.{statement}

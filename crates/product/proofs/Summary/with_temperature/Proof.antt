@@ -1,27 +1,27 @@
 -- `Summary::with_temperature` meets its contract: the first temperature is both ends, and any other moves them as `lesser` and `greater` say.
 use borrow.Author.Tests.{ne_eqb}
-use Rattle.product.specs.Summary.{withTemperature}
+use Rattle.product.specs.Summary.{with_temperature}
 use borrow.Author.Rules.{rules}
 use Rattle.product.proofs.Summary.with_temperature.Statement.{statement}
 use Rattle.product.proofs.Summary.with_temperature.Tie as tie
 
 returns : tie.Need-returns
-unfolding withTemperature
+unfolding with_temperature
 returns c = simp c.if1.true
 
-add-t4 : tie.Need-overflow-add-t4
-add-t4 c = search rules
+add_t4 : tie.Need-overflow-add-t4
+add_t4 c = search rules
 
-lesser-of-requires : tie.Need-lesser-of-requires
-lesser-of-requires c κs = search rules
+lesser_of_requires : tie.Need-lesser-of-requires
+lesser_of_requires c κs = search rules
 
-greater-of-requires : tie.Need-greater-of-requires
-greater-of-requires c κs = search rules
+greater_of_requires : tie.Need-greater-of-requires
+greater_of_requires c κs = search rules
 
-returns-2 : tie.Need-returns-2
-unfolding withTemperature
-returns-2 c = simp (ne_eqb _ _ c.before.before.before.if1.false, c.before.lesser-of.ensures, c.greater-of.ensures)
+returns_2 : tie.Need-returns-2
+unfolding with_temperature
+returns_2 c = simp (ne_eqb _ _ c.before.before.before.if1.false, c.before.lesser-of.ensures, c.greater-of.ensures)
 
-pub with-temperature-spec : {M : Type 1} → statement M
-with-temperature-spec =
-    tie.close (tie.spec returns add-t4 lesser-of-requires greater-of-requires returns-2)
+pub with_temperature_spec : {M : Type 1} → statement M
+with_temperature_spec =
+    tie.close (tie.spec returns add_t4 lesser_of_requires greater_of_requires returns_2)
