@@ -10,7 +10,7 @@ import re
 import sys
 
 WORD = r"\w₀-₉'◌"
-DECLARED = re.compile(r"^[ \t]*(?:(?:abbrev|unfoldable)[ \t]+)?(?:pub[ \t]+)?(?:(data|record)[ \t]+)?([^\s:(){}]+(?:[ \t]+[^\s:(){}]+)*)[ \t]*:(?=\s)(.*(?:\n[ \t]+.*)*)", re.M)
+DECLARED = re.compile(r"^[ \t]*(?:(?:abbrev|unfoldable)[ \t]+)?(?:pub[ \t]+)?(?:(data|record)[ \t]+)?([^\s:(){}]+(?:[ \t]+[^\s:(){}]+)*)[ \t]*:(?=\s)(.*)", re.M)
 IMPORT = re.compile(r"\buse\s+(\S+?)\.\{([^}]*)\}")
 
 
@@ -24,7 +24,9 @@ def read(path):
 
 
 def snake(name):
-    return re.sub(r"(?<=[a-z0-9])([A-Z])", lambda m: "_" + m.group(1).lower(), name)
+    name = re.sub(r"([a-z0-9])([A-Z][a-z]+)", r"\1_\2", name)
+    name = re.sub(r"([A-Z])([A-Z][a-z]+)", r"\1_\2", name)
+    return re.sub(r"([a-z0-9])([A-Z])", r"\1_\2", name).lower()
 
 
 def names():

@@ -31,7 +31,7 @@ abbrev pub tc_of : Corrections → ℤ
 tc_of k = pos (11166 + k.rj + k.sl)
 
 abbrev pub rise_of : Means → Corrections → ℤ
-rise_of m k = r (pos m.sum_vPT) (pos m.sum_vP) +ℤ k.b -ℤ tc_of k
+rise_of m k = r (pos m.sum_vpt) (pos m.sum_vp) +ℤ k.b -ℤ tc_of k
 
 -- Tw is the same for both targets
 pub rise_of_target : (target : Target) → rise_of (bench_means_lem target) bench_row_lem ≡ pos 1107656
@@ -74,8 +74,8 @@ rows = record {
   H7 = all_at 22500 1395236 refl refl;
   H8 = all_outside 22501 refl;
   H9 = all_at 10001 11277 refl refl;
-  H10-fourth = A.h10_fourth_bad;
-  H10-value = A.h10_scan_value;
+  H10_fourth = A.h10_fourth_bad;
+  H10_value = A.h10_scan_value;
   H11 = A.h11_side_bad;
   H12 = A.h12_both_bad;
 }
@@ -89,33 +89,33 @@ unfolding r floor
 rounding_rows = record {
   half = refl;
   three_halves = refl;
-  five-halves = refl;
-  half-below-zero = refl;
-  three-halves-below-zero = refl;
-  five-halves-below-zero = refl;
+  five_halves = refl;
+  half_below_zero = refl;
+  three_halves_below_zero = refl;
+  five_halves_below_zero = refl;
   above_half = refl;
-  below-three-halves = refl;
-  above-half-below-zero = refl;
-  above-three-halves-below-zero = refl;
+  below_three_halves = refl;
+  above_half_below_zero = refl;
+  above_three_halves_below_zero = refl;
 }
 
 pub bias_rows : BiasRows
 unfolding biased r floor
-bias_rows = record { no-bias = refl; least-e = refl; greatest-e = refl; half-more = refl; half-less = refl }
+bias_rows = record { no_bias = refl; least_e = refl; greatest_e = refl; half_more = refl; half_less = refl }
 
 pub interpolation_rows : InterpolationRows
 unfolding tnl_of unrounded_tnl above_pair r floor
 interpolation_rows = record {
   least = refl;
-  below-first = refl;
+  below_first = refl;
   at_first = refl;
-  half-below = refl;
+  half_below = refl;
   at_second = refl;
-  half-to-zero = refl;
-  half-above = refl;
-  third-of-the-way = refl;
-  third-of-the-way-unrounded = refl;
-  two-thirds-of-the-way = refl;
+  half_to_zero = refl;
+  half_above = refl;
+  third_of_the_way = refl;
+  third_of_the_way_unrounded = refl;
+  two_thirds_of_the_way = refl;
   at_last = refl;
   above_last = refl;
   greatest = refl;

@@ -39,7 +39,7 @@ use Rattle.window.specs.Ages.{no_scan}
 use Rattle.window.specs.Sums.{weight_sum, value_sum, thermometer_weights, thermometer_sum, means_from, means_of}
 use Rattle.lists.proofs.Stands.{cell_stands}
 use Rattle.fields.proofs.FieldBytes.{u16_that_stands}
-use Rattle.promise.specs.Moments.{means_at, shelfAt, tnl_at}
+use Rattle.promise.specs.Moments.{means_at, shelf_at, tnl_at}
 use Rattle.calibrator.specs.Feeding.{kept_by}
 use Rattle.bench.specs.Bench.{bench_table, instrument_bytes, per_channel, bench_scan, bench_settings, bench_moment, samples_at}
 use Rattle.promise.proofs.RollLaws.{scan_of_age}
@@ -80,10 +80,10 @@ module _ (s : Settings) (value : List ℕ) (target : Target) (read : ℕ → Res
   row_of_target f = tabulate_same _ _ (size_of target) (λ i inside. ap f (reads i inside))
 
   pub accepted_by_readings : accepted_thermometers s value target
-      ≡ at_least (s.least target) (good_samples (tabulate (λ i. in_kelvin (read i)) (size_of target)) (tabulate (λ i. in_limits s (read i)) (size_of target)) s.dT)
+      ≡ at_least (s.least target) (good_samples (tabulate (λ i. in_kelvin (read i)) (size_of target)) (tabulate (λ i. in_limits s (read i)) (size_of target)) s.d_t)
   unfolding accepted_thermometers kelvins passed_limits
   accepted_by_readings =
-      ap₂ (λ (values : List ℕ) (passed : List Bool). at_least (s.least target) (good_samples values passed s.dT)) (row_of_target in_kelvin) (row_of_target (in_limits s))
+      ap₂ (λ (values : List ℕ) (passed : List Bool). at_least (s.least target) (good_samples values passed s.d_t)) (row_of_target in_kelvin) (row_of_target (in_limits s))
 
 each_reads_zero : (i : ℕ) → i < thermometers → reading_at bench_settings instrument_bytes i ≡ units (pos 0)
 unfolding bench_table instrument_bytes tabulate
@@ -93,7 +93,7 @@ each_reads_zero i below =
 
 accepted_of_target : (target : Target) → accepted_thermometers bench_settings instrument_bytes target
     ≡ at_least (bench_settings.least target)
-    (good_samples (tabulate (λ i. 1118822) (size_of target)) (tabulate (λ i. in_limits bench_settings (units (pos 0))) (size_of target)) bench_settings.dT)
+    (good_samples (tabulate (λ i. 1118822) (size_of target)) (tabulate (λ i. in_limits bench_settings (units (pos 0))) (size_of target)) bench_settings.d_t)
 accepted_of_target target =
     accepted_by_readings bench_settings instrument_bytes target (λ i. units (pos 0)) (λ i inside. each_reads_zero (first_of target + i) (omega (arith, last_at_most target)))
 
@@ -133,7 +133,7 @@ bench_kept_lem = record { warm = replicate channels 240001; cold = replicate cha
 
 -- eight or seven thermometers with p = 1; one scan with weight 1
 abbrev pub bench_means_lem : Target → Means
-bench_means_lem target = record { sum_vP = size_of target; sum_vPT = size_of target * 1118822; Ww = 1; Aw = 240000; Wc = 1; Ac = 120000 }
+bench_means_lem target = record { sum_vp = size_of target; sum_vpt = size_of target * 1118822; Ww = 1; Aw = 240000; Wc = 1; Ac = 120000 }
 
 means_of_kept : (c : ℕ) → c < channels → means_of bench_settings (λ k. cond (eqb (7 + k) 7) bench_kept_lem no_scan) c ≡ bench_means_lem (target_of c)
 unfolding bench_table tabulate means_from weight_sum value_sum thermometer_weights thermometer_sum sum no_scan
@@ -173,7 +173,7 @@ module _ (earth : ℕ) where
   -- ---- TNL of each channel
 
   pub bench_tnl : (c : ℕ) → c < channels → tnl_at bench_settings (bench_moment earth) c ≡ pos 400
-  bench_tnl c below = tnl_level ((accepted_ranges bench_table_lem).channel c below).pair (shelfAt bench_settings (bench_moment earth) c) (pos 400) (level_pairs c below)
+  bench_tnl c below = tnl_level ((accepted_ranges bench_table_lem).channel c below).pair (shelf_at bench_settings (bench_moment earth) c) (pos 400) (level_pairs c below)
 
   -- ---- the earth counts
 

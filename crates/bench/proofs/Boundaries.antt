@@ -13,7 +13,7 @@ use Rattle.lists.specs.Count.{count, every}
 use Rattle.lists.specs.Sum.{sum}
 use Rattle.lists.proofs.Tabulate.{each_of_same}
 use Rattle.thermometer.specs.Rule.{M, q, s1, y, w, h, s2, F}
-use Rattle.thermometer.specs.Reading.{Result, units, notRead, reading}
+use Rattle.thermometer.specs.Reading.{Result, units, not_read, reading}
 use Rattle.thermometer.proofs.Bench.{answer_at_place, bench_reading}
 use Rattle.instrument.specs.declared.Side.{Side}
 use Rattle.instrument.specs.declared.Side.TheVariants.{Warm, Cold}
@@ -39,57 +39,57 @@ use Rattle.promise.proofs.RollLaws.{scan_of_age}
 use Rattle.promise.proofs.SampleLaws.{means_at_is}
 use Rattle.bench.specs.Bench.{bench_table, bench_scan, bench_settings, instrument_bytes, samples_at}
 use Rattle.bench.specs.Witnesses.{numbered_scan}
-use Rattle.bench.specs.Boundaries.{BothSides, BothTargets, endPart, with_tLow, with_tUpp, with_dT, instrument_with, even_weights, sums_of_scans, RangeRows, ReadingEnds, ThermometerRows, CountRows, FlagRows, AgeRows, BoundaryRows}
+use Rattle.bench.specs.Boundaries.{BothSides, BothTargets, end_part, with_t_low, with_t_upp, with_dt, instrument_with, even_weights, sums_of_scans, RangeRows, ReadingEnds, ThermometerRows, CountRows, FlagRows, AgeRows, BoundaryRows}
 use Rattle.bench.proofs.BenchScan.{bench_sides, bench_kept_lem, accepted_by_readings, samples_by}
 
 -- ---- the ranges of a table and of a bias file
 
 range_rows : RangeRows
-unfolding part_inside endPart values_inside leasts_inside thermometer_limits_inside channel_inside pair_inside sums_inside every sum
-range_rows = record { low-ends = refl; high-ends = refl; bias-low-ends = refl; bias-high-ends = refl }
+unfolding part_inside end_part values_inside leasts_inside thermometer_limits_inside channel_inside pair_inside sums_inside every sum
+range_rows = record { low_ends = refl; high_ends = refl; bias_low_ends = refl; bias_high_ends = refl }
 
 -- ---- counts and flags
 
 count_rows : CountRows
 unfolding tabulate accepted_counts four_counts within_limits accepted_sides without_overlap good differs count chosen_to
 count_rows = record {
-  low-at = (refl, refl);
-  low-beyond = (refl, refl);
-  upp-at = (refl, refl);
-  upp-beyond = (refl, refl);
+  low_at = (refl, refl);
+  low_beyond = (refl, refl);
+  upp_at = (refl, refl);
+  upp_beyond = (refl, refl);
   above_at = (refl, refl);
-  above-beyond = (refl, refl);
+  above_beyond = (refl, refl);
   below_at = (refl, refl);
-  below-beyond = (refl, refl);
-  three-at = (refl, refl);
-  three-beyond = (refl, refl);
-  overlap-at = (refl, refl);
-  overlap-beyond = (refl, refl);
+  below_beyond = (refl, refl);
+  three_at = (refl, refl);
+  three_beyond = (refl, refl);
+  overlap_at = (refl, refl);
+  overlap_beyond = (refl, refl);
 }
 
 flag_rows : FlagRows
 unfolding bench_table flag_of sum
 flag_rows = record {
-  percentages-at = (refl, refl);
-  thermometers-less = (refl, refl);
-  warm-less = (refl, refl);
-  cold-less = (refl, refl);
-  thermometers-beyond = refl;
-  warm-beyond = (refl, refl);
-  cold-beyond = (refl, refl);
-  d-one = (refl, refl);
-  d-zero = (refl, refl);
-  d-below = (refl, refl);
+  percentages_at = (refl, refl);
+  thermometers_less = (refl, refl);
+  warm_less = (refl, refl);
+  cold_less = (refl, refl);
+  thermometers_beyond = refl;
+  warm_beyond = (refl, refl);
+  cold_beyond = (refl, refl);
+  d_one = (refl, refl);
+  d_zero = (refl, refl);
+  d_below = (refl, refl);
   one_of_all = (refl, refl);
-  two-before-three = (refl, refl);
-  three-before-four = (refl, refl);
+  two_before_three = (refl, refl);
+  three_before_four = (refl, refl);
 }
 
 -- ---- thermometers
 
 reading_ends : ReadingEnds
 unfolding reading M F s1 s2 h w y q floor
-reading_ends = record { m-low-at = refl; m-low-beyond = refl; m-high-at = refl; m-high-beyond = refl }
+reading_ends = record { m_low_at = refl; m_low_beyond = refl; m_high_at = refl; m_high_beyond = refl }
 
 abbrev bench_reading_lem : ℕ → Result
 bench_reading_lem count = reading 2000000 2000000 3850000 1500000 0 20000 0 count
@@ -107,7 +107,7 @@ higher_reading : bench_reading_lem 20002 ≡ units (pos 104)
 unfolding reading M F s1 s2 h w y q floor
 higher_reading = ap units (answer_at_place 245864 (pos 16778893) (omega arith) F_at_104 F_at_105 (le_z_yes tt) (lt_z_yes tt))
 
-no_reading : bench_reading_lem 0 ≡ notRead 10
+no_reading : bench_reading_lem 0 ≡ not_read 10
 unfolding reading M F s1 s2 h w y q floor
 no_reading = refl
 
@@ -116,7 +116,7 @@ module _ (s : Settings) (value : List ℕ) (target : Target) where
   abbrev AcceptedBy : (ℕ → Result) → Type 0
   AcceptedBy read =
       accepted_thermometers s value target
-      ≡ at_least (s.least target) (good_samples (tabulate (λ i. in_kelvin (read i)) (size_of target)) (tabulate (λ i. in_limits s (read i)) (size_of target)) s.dT)
+      ≡ at_least (s.least target) (good_samples (tabulate (λ i. in_kelvin (read i)) (size_of target)) (tabulate (λ i. in_limits s (read i)) (size_of target)) s.d_t)
 
   abbrev Reads : (ℕ → ℕ) → Type 0
   Reads count = tabulate (λ i. reading_at s value (first_of target + i)) (size_of target) ≡ tabulate (λ i. bench_reading_lem (count i)) (size_of target)
@@ -139,21 +139,21 @@ some_higher s n target = first_and_others s (instrument_with n 20002 20000) targ
 
 -- n are read
 some_read : (n : ℕ) (target : Target) → Reads bench_settings (instrument_with n 20000 0) target (λ i. cond (ltb i n) 20000 0)
-    → AcceptedBy bench_settings (instrument_with n 20000 0) target (λ i. cond (ltb i n) (units (pos 0)) (notRead 10))
-some_read n target = first_and_others bench_settings (instrument_with n 20000 0) target n 20000 0 (units (pos 0)) (notRead 10) bench_reading no_reading
+    → AcceptedBy bench_settings (instrument_with n 20000 0) target (λ i. cond (ltb i n) (units (pos 0)) (not_read 10))
+some_read n target = first_and_others bench_settings (instrument_with n 20000 0) target n 20000 0 (units (pos 0)) (not_read 10) bench_reading no_reading
 
 thermometer_rows : ThermometerRows
 unfolding bench_table instrument_bytes instrument_with tabulate good differs count chosen_to
 thermometer_rows = record {
-  low-at = (all_at_zero (with_tLow 0) instrument_bytes Kav refl, all_at_zero (with_tLow 0) instrument_bytes Wg refl);
-  low-beyond = (all_at_zero (with_tLow 1) instrument_bytes Kav refl, all_at_zero (with_tLow 1) instrument_bytes Wg refl);
-  upp-at = (all_at_zero (with_tUpp 0) instrument_bytes Kav refl, all_at_zero (with_tUpp 0) instrument_bytes Wg refl);
-  upp-beyond = (all_at_zero (with_tUpp 0xFFFF_FFFF) instrument_bytes Kav refl, all_at_zero (with_tUpp 0xFFFF_FFFF) instrument_bytes Wg refl);
-  difference-at = (some_higher (with_dT 104) 1 Kav refl, some_higher (with_dT 104) 1 Wg refl);
-  difference-beyond = (some_higher (with_dT 103) 1 Kav refl, some_higher (with_dT 103) 1 Wg refl);
-  two-beyond = (some_higher (with_dT 103) 2 Kav refl, some_higher (with_dT 103) 2 Wg refl);
+  low_at = (all_at_zero (with_t_low 0) instrument_bytes Kav refl, all_at_zero (with_t_low 0) instrument_bytes Wg refl);
+  low_beyond = (all_at_zero (with_t_low 1) instrument_bytes Kav refl, all_at_zero (with_t_low 1) instrument_bytes Wg refl);
+  upp_at = (all_at_zero (with_t_upp 0) instrument_bytes Kav refl, all_at_zero (with_t_upp 0) instrument_bytes Wg refl);
+  upp_beyond = (all_at_zero (with_t_upp 0xFFFF_FFFF) instrument_bytes Kav refl, all_at_zero (with_t_upp 0xFFFF_FFFF) instrument_bytes Wg refl);
+  difference_at = (some_higher (with_dt 104) 1 Kav refl, some_higher (with_dt 104) 1 Wg refl);
+  difference_beyond = (some_higher (with_dt 103) 1 Kav refl, some_higher (with_dt 103) 1 Wg refl);
+  two_beyond = (some_higher (with_dt 103) 2 Kav refl, some_higher (with_dt 103) 2 Wg refl);
   least_at = (some_read 5 Kav refl, some_read 4 Wg refl);
-  least-beyond = (some_read 4 Kav refl, some_read 3 Wg refl);
+  least_beyond = (some_read 4 Kav refl, some_read 3 Wg refl);
 }
 
 -- ---- ages
@@ -186,8 +186,8 @@ means_at_number number c below =
 age_rows : AgeRows
 unfolding bench_table numbered_scan tabulate means_from weight_sum value_sum thermometer_weights thermometer_sum sum no_scan
 age_rows = record {
-  age-at = λ c below. means_at_number 14 c below ∙ each_of_same (means_of even_weights (two_scans 14)) (λ c. sums_of_scans 2 (target_of c)) channels refl c below;
-  age-beyond = λ c below. means_at_number 15 c below ∙ each_of_same (means_of even_weights (two_scans 15)) (λ c. sums_of_scans 1 (target_of c)) channels refl c below;
+  age_at = λ c below. means_at_number 14 c below ∙ each_of_same (means_of even_weights (two_scans 14)) (λ c. sums_of_scans 2 (target_of c)) channels refl c below;
+  age_beyond = λ c below. means_at_number 15 c below ∙ each_of_same (means_of even_weights (two_scans 15)) (λ c. sums_of_scans 1 (target_of c)) channels refl c below;
 }
 
 pub boundary_rows : BoundaryRows
@@ -198,7 +198,7 @@ boundary_rows = record { ranges = range_rows; readings = reading_ends; thermomet
 pub ages_say : (c : ℕ) → c < 22
     → (means_at even_weights (fed_moment (bench_scan 15000 ∷ []) (numbered_scan 14 15000)) c ≡ sums_of_scans 2 (target_of c))
     × (means_at even_weights (fed_moment (bench_scan 15000 ∷ []) (numbered_scan 15 15000)) c ≡ sums_of_scans 1 (target_of c))
-ages_say c below = (boundary_rows.ages.age-at c below, boundary_rows.ages.age-beyond c below)
+ages_say c below = (boundary_rows.ages.age_at c below, boundary_rows.ages.age_beyond c below)
 
 -- ---- a row of both sides, or of both targets, is a row of each
 

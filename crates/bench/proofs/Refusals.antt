@@ -8,12 +8,12 @@ use borrow.Author.Tests.{lt-ltb}
 use Rattle.lists.specs.Count.{every}
 use Rattle.lists.specs.Tests.{Verdict, passes, fails}
 use Rattle.fields.specs.Fields.{field_is_right, layout_is_right}
-use Rattle.thermometer.specs.Reading.{notRead, reading}
+use Rattle.thermometer.specs.Reading.{not_read, reading}
 use Rattle.table.specs.Ranges.{leasts_inside, values_inside}
 use Rattle.table.specs.Opening.{opening}
 use Rattle.bias.specs.Opening.{part_inside, bias_inside, bias_opening, both_opening}
 use Rattle.lastscan.specs.LastScan.{nothing_kept}
-use Rattle.lookup.specs.Lookup.{refusedWith}
+use Rattle.lookup.specs.Lookup.{refused_with}
 use Rattle.product.specs.Product.{product_size}
 use Rattle.window.specs.Ages.{window_after}
 use Rattle.calibrator.specs.declared.Calibrator.{Calibrator}
@@ -65,10 +65,10 @@ module _ (buffer short : List ℕ) (room : product_size ≤ length buffer) (no_r
       let is-short = lt-ltb (length short) product_size no_room in
       record {
         four_of_all = row [] 4 (5 ∷ 6 ∷ 7 ∷ []) (rw is-short) refl;
-        four-with-right-tags = row (bench_scan 15000 ++ (0 ∷ [])) 4 (6 ∷ 7 ∷ []) (rw is-short) refl;
-        five-before-six = row zeros 5 (6 ∷ 7 ∷ []) (rw is-short) refl;
-        six-before-seven = row (bench_scan 15000) 6 (7 ∷ []) (rw is-short) refl;
-        seven-alone = row (numbered_scan 8 15000) 7 [] (rw is-short) (rw is-short);
+        four_with_right_tags = row (bench_scan 15000 ++ (0 ∷ [])) 4 (6 ∷ 7 ∷ []) (rw is-short) refl;
+        five_before_six = row zeros 5 (6 ∷ 7 ∷ []) (rw is-short) refl;
+        six_before_seven = row (bench_scan 15000) 6 (7 ∷ []) (rw is-short) refl;
+        seven_alone = row (numbered_scan 8 15000) 7 [] (rw is-short) (rw is-short);
       }
 
 -- ---- opening
@@ -76,28 +76,28 @@ module _ (buffer short : List ℕ) (room : product_size ≤ length buffer) (no_r
 opening_rows : OpeningRows
 unfolding opening values_inside leasts_inside table_outside layout_is_right field_is_right bias_outside bias_opening bias_inside part_inside every
 opening_rows = record {
-  table-one-of-all = (refl, refl);
-  table-two-before-three = (refl, refl);
-  table-three-alone = (refl, refl);
-  bias-one-of-all = (refl, refl);
-  bias-two-before-three = (refl, refl);
-  bias-three-alone = (refl, refl);
-  table-before-bias = (refl, refl);
+  table_one_of_all = (refl, refl);
+  table_two_before_three = (refl, refl);
+  table_three_alone = (refl, refl);
+  bias_one_of_all = (refl, refl);
+  bias_two_before_three = (refl, refl);
+  bias_three_alone = (refl, refl);
+  table_before_bias = (refl, refl);
 }
 
 -- ---- one thermometer, and the count behind a temperature
 
 reading_rows : ReadingRows
 unfolding reading
-reading_rows = record { eight-of-all = (refl, refl); nine-before-ten = (refl, refl); ten-alone = (refl, refl) }
+reading_rows = record { eight_of_all = (refl, refl); nine_before_ten = (refl, refl); ten_alone = (refl, refl) }
 
 lookup_rows : LookupRows
 unfolding fresh_of nothing_kept
 lookup_rows = record {
-  eleven-below = (refl, λ wanted. refl);
-  eleven-above = (refl, λ wanted. refl);
-  twelve-at-first = (refl, λ wanted. refl);
-  twelve-at-last = (refl, λ wanted. refl);
+  eleven_below = (refl, λ wanted. refl);
+  eleven_above = (refl, λ wanted. refl);
+  twelve_at_first = (refl, λ wanted. refl);
+  twelve_at_last = (refl, λ wanted. refl);
 }
 
 pub refusal_rows : RefusalRows
@@ -120,12 +120,12 @@ pub short_verdicts_say : let roll = rolled_by [] bench_fed in
     × (verdict_at roll (short_feed (bench_scan 15000)) ≡ fails 6) × (verdict_at roll (short_feed (numbered_scan 8 15000)) ≡ fails 7)
 short_verdicts_say =
     let rows = rows_of_short_feeds in
-    (rows.four_of_all.0.1, rows.four-with-right-tags.0.1, rows.five-before-six.0.1, rows.six-before-seven.0.1, rows.seven-alone.0.1)
+    (rows.four_of_all.0.1, rows.four_with_right_tags.0.1, rows.five_before_six.0.1, rows.six_before_seven.0.1, rows.seven_alone.0.1)
 
 pub short_replies_say : let reply : List ℕ → Reply = λ scan. (outcome_after bench_calibrator bench_fed (short_feed scan)).reply in
     (reply [] ≡ refused 4) × (reply (bench_scan 15000 ++ (0 ∷ [])) ≡ refused 4) × (reply zeros ≡ refused 5) × (reply (bench_scan 15000) ≡ refused 6) × (reply (numbered_scan 8 15000) ≡ refused 7)
 short_replies_say =
-    let rows = rows_of_short_feeds in (rows.four_of_all.1, rows.four-with-right-tags.1, rows.five-before-six.1, rows.six-before-seven.1, rows.seven-alone.1)
+    let rows = rows_of_short_feeds in (rows.four_of_all.1, rows.four_with_right_tags.1, rows.five_before_six.1, rows.six_before_seven.1, rows.seven_alone.1)
 
 -- ---- the other rows taken apart
 
@@ -135,20 +135,20 @@ pub openings_say : (opening [] ≡ fails 1) × (opening (replicate 1404 0) ≡ f
 unfolding bias_outside
 openings_say =
     let rows = refusal_rows.openings in (
-      rows.table-one-of-all.1,
-      rows.table-two-before-three.1,
-      rows.table-three-alone.1,
-      rows.bias-one-of-all.1,
-      rows.bias-two-before-three.1,
-      rows.bias-three-alone.1,
-      rows.table-before-bias.0,
+      rows.table_one_of_all.1,
+      rows.table_two_before_three.1,
+      rows.table_three_alone.1,
+      rows.bias_one_of_all.1,
+      rows.bias_two_before_three.1,
+      rows.bias_three_alone.1,
+      rows.table_before_bias.0,
     )
 
-pub readings_say : (reading 999 2000000 3850000 1500000 0 100 100 99 ≡ notRead 8) × (reading 1000 2000000 3850000 1500000 0 100 100 99 ≡ notRead 9)
-    × (reading 1000 2000000 3850000 1500000 0 101 100 99 ≡ notRead 10)
-readings_say = let rows = refusal_rows.readings in (rows.eight-of-all.1, rows.nine-before-ten.1, rows.ten-alone.1)
+pub readings_say : (reading 999 2000000 3850000 1500000 0 100 100 99 ≡ not_read 8) × (reading 1000 2000000 3850000 1500000 0 100 100 99 ≡ not_read 9)
+    × (reading 1000 2000000 3850000 1500000 0 101 100 99 ≡ not_read 10)
+readings_say = let rows = refusal_rows.readings in (rows.eight_of_all.1, rows.nine_before_ten.1, rows.ten_alone.1)
 
-pub lookups_say : (wanted : ℕ) → (answer_of bench_calibrator 0 wanted ≡ refusedWith 11) × (answer_of bench_calibrator 23 wanted ≡ refusedWith 11)
-    × (answer_of bench_calibrator 1 wanted ≡ refusedWith 12) × (answer_of bench_calibrator 22 wanted ≡ refusedWith 12)
+pub lookups_say : (wanted : ℕ) → (answer_of bench_calibrator 0 wanted ≡ refused_with 11) × (answer_of bench_calibrator 23 wanted ≡ refused_with 11)
+    × (answer_of bench_calibrator 1 wanted ≡ refused_with 12) × (answer_of bench_calibrator 22 wanted ≡ refused_with 12)
 lookups_say wanted =
-    let rows = refusal_rows.lookups in (rows.eleven-below.1 wanted, rows.eleven-above.1 wanted, rows.twelve-at-first.1 wanted, rows.twelve-at-last.1 wanted)
+    let rows = refusal_rows.lookups in (rows.eleven_below.1 wanted, rows.eleven_above.1 wanted, rows.twelve_at_first.1 wanted, rows.twelve_at_last.1 wanted)

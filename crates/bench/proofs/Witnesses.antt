@@ -53,8 +53,8 @@ use Rattle.promise.specs.Restart.{rolled_by}
 use Rattle.promise.specs.Outcomes.{fed_moment}
 use Rattle.promise.specs.Moments.{means_at, tnl_at, word_at, units_at, is_delivered}
 use Rattle.promise.specs.Promise.{front, FeedClaim, Alike, Promise}
-use Rattle.scene.specs.BeforeBias.{justT, outsideMark}
-use Rattle.lookup.specs.Lookup.{Found, foundCount}
+use Rattle.scene.specs.BeforeBias.{just_t, outside_mark}
+use Rattle.lookup.specs.Lookup.{Found, found_count}
 use Rattle.promise.specs.CountBehind.{answer_of, AnswerSays}
 use Rattle.promise.proofs.CountLaws.{answers_say, higher_count_higher_t}
 use Rattle.bench.proofs.BenchBytes.{bench_scan_bytes, numbered_bytes, zeros_bytes}
@@ -227,7 +227,7 @@ module _ (buffer : List ℕ) (room : product_size ≤ length buffer) where
 
 -- what is delivered is T, within the guard
 bench_in_units : InUnitsBy unbiased bench_channel
-bench_in_units = record { within = λ flag count passed. within_guard passed.guard-low passed.guard-high }
+bench_in_units = record { within = λ flag count passed. within_guard passed.guard_low_lem passed.guard_high_lem }
 
 outside_scene : scene_in unbiased bench_channel 9999 ≡ Outside
 unfolding scene_in scene_of r floor
@@ -337,12 +337,12 @@ module _ (earth : ℕ) (buffer : List ℕ) (room : product_size ≤ length buffe
   abbrev pub fed : (c : ℕ) → c < channels → FedChannel
   fed c below = record {
     table = bench_table;
-    tableAccepted = bench_table_lem;
+    table_accepted = bench_table_lem;
     before = feeds_before earth buffer;
     feed = record { scan = bench_scan earth; buffer = buffer };
-    feedAccepted = fed_passes;
+    feed_accepted = fed_passes;
     channel = c;
-    isChannel = below;
+    is_channel = below;
   }
 
   fed_means : (c : ℕ) (below : c < channels) → means_at bench_settings (moment_of_fed (fed c below)) c ≡ bench_means_lem (target_of c)
@@ -365,7 +365,7 @@ module _ (earth : ℕ) (buffer : List ℕ) (room : product_size ≤ length buffe
   -- though their sums differ
   pub sums_differ : means_at (settings_of_fed (fed 0 (lit< tt))) (moment_of_fed (fed 0 (lit< tt))) 0 ≡ means_at (settings_of_fed (fed 15 (lit< tt))) (moment_of_fed (fed 15 (lit< tt))) 15 → ⊥
   sums_differ same =
-      let eight-is-seven : ◌≡◌ {A = ℕ} 8 7 = ap (λ (m : Means). m.sum_vP) (sym (fed_means 0 (lit< tt)) ∙ same ∙ fed_means 15 (lit< tt)) in
+      let eight-is-seven : ◌≡◌ {A = ℕ} 8 7 = ap (λ (m : Means). m.sum_vp) (sym (fed_means 0 (lit< tt)) ∙ same ∙ fed_means 15 (lit< tt)) in
       omega arith
 
   -- so that every count has the same T or the same mark
@@ -380,18 +380,18 @@ module _ (earth : ℕ) (buffer : List ℕ) (room : product_size ≤ length buffe
       ∙ ap (λ (numbers : List ℤ). by_numbers numbers (pos count)) (fed_numbers_are c below)
 
   -- 15,000 has the T of H4, and 9,999 is outside (H6)
-  pub scene_of_h4 : (c : ℕ) (below : c < channels) → fed_scene (fed c below) (pos 15000) ≡ justT (pos 565394)
+  pub scene_of_h4 : (c : ℕ) (below : c < channels) → fed_scene (fed c below) (pos 15000) ≡ just_t (pos 565394)
   unfolding temperature r floor
   scene_of_h4 c below = scene_by_bench_numbers c below 15000
 
-  pub scene_of_h6 : (c : ℕ) (below : c < channels) → fed_scene (fed c below) (pos 9999) ≡ outsideMark
+  pub scene_of_h6 : (c : ℕ) (below : c < channels) → fed_scene (fed c below) (pos 9999) ≡ outside_mark
   unfolding temperature r floor
   scene_of_h6 c below = scene_by_bench_numbers c below 9999
 
   -- request W5: after these feeds, all of bytes, 15,000 is the count behind the T of H4
   module _ (small : earth ≤ 65535) (c : ℕ) (below : c < channels) where
-    before-of-bytes : AllOfBytes (feeds_before earth buffer)
-    before-of-bytes =
+    before_of_bytes : AllOfBytes (feeds_before earth buffer)
+    before_of_bytes =
         let six : Feed = record { scan = numbered_scan 6 earth; buffer = buffer } in
         feeds_of_bytes (record { scan = zeros; buffer = buffer }) (six ∷ []) zeros_bytes
         (feeds_of_bytes six [] (numbered_bytes 6 earth (lit< tt) small) no_feed_of_bytes)
@@ -400,24 +400,24 @@ module _ (earth : ℕ) (buffer : List ℕ) (room : product_size ≤ length buffe
     bench_answer wanted = answer_of (step (calibrator_after bench_calibrator (feeds_before earth buffer)) (record { scan = bench_scan earth; buffer = buffer })).calibrator (c + 1) wanted
 
     bench_says : (wanted : ℕ) → AnswerSays (fed c below) (bench_answer wanted) wanted
-    bench_says wanted = answers_say (fed c below) (before-of-bytes, bench_scan_bytes earth small) (fed_flag_zero c below) (record { bytes = zero_bias }) wanted
+    bench_says wanted = answers_say (fed c below) (before_of_bytes, bench_scan_bytes earth small) (fed_flag_zero c below) (record { bytes = zero_bias }) wanted
 
-    pub count_behind_h4 : bench_answer 565394 ≡ foundCount 15000
+    pub count_behind_h4 : bench_answer 565394 ≡ found_count 15000
     count_behind_h4 = (bench_says 565394).only 15000 (lit≤ tt) (scene_of_h4 c below)
 
     -- and H5, the cold mean itself, has the lower T of the two
-    pub scene_of_h5 : fed_scene (fed c below) (pos 10000) ≡ justT (pos 11166)
+    pub scene_of_h5 : fed_scene (fed c below) (pos 10000) ≡ just_t (pos 11166)
     unfolding temperature r floor
     scene_of_h5 = scene_by_bench_numbers c below 10000
 
     pub h5_below_h4 : pos 11166 <ℤ pos 565394
     h5_below_h4 =
-        higher_count_higher_t (fed c below) (before-of-bytes, bench_scan_bytes earth small) 10000 15000 (pos 11166) (pos 565394) (lit< tt) scene_of_h5 (scene_of_h4 c below)
+        higher_count_higher_t (fed c below) (before_of_bytes, bench_scan_bytes earth small) 10000 15000 (pos 11166) (pos 565394) (lit< tt) scene_of_h5 (scene_of_h4 c below)
 
   -- request W7: every thermometer of the bench scan has T 1,118,822, and t = 0 of the first is bracketed by its counts
-  pub first-thermometer-bracketed : Bracketed 3850000 1500000 0 (measured_ratio 2000000 2000000 20000 0 20000) (pos 0)
+  pub first_thermometer_bracketed : Bracketed 3850000 1500000 0 (measured_ratio 2000000 2000000 20000 0 20000) (pos 0)
   unfolding All tabulate cells bench_table bench_scan instrument_bytes
-  first-thermometer-bracketed =
+  first_thermometer_bracketed =
       let scan = bench_scan earth in
       let claim = fed_record_says fed_thermometers_bracketed (record { bytes = bench_table }) (feeds_before earth buffer) (record { scan = scan; buffer = buffer }) fed_passes in
       (subst (λ (samples : AcceptedSamples). All (SampleBracketed bench_settings scan Kav) samples.kav) (bench_samples earth) (claim Kav)).0

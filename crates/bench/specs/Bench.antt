@@ -42,7 +42,7 @@ settings_bytes =
     -- T_low and T_upp at their ends, in two's complement
     ++ u32_bytes (0x1_0000_0000 - 245760)
     ++ u32_bytes 245760
-    -- dT
+    -- d_t
     ++ u32_bytes 100
 
 -- p; R0, alpha, delta, beta
@@ -169,8 +169,8 @@ pub record Rows : Type 0 where
   pub H8 : AllOutside 22501
   pub H9 : AllAt 10001 11277
   -- warm 20,000 three times and 20,100: fourth bad, a = 240,000
-  pub H10-fourth : good (four 20000 20000 20000 20100) (within_limits limits (four 20000 20000 20000 20100)) 50 3 ≡ false
-  pub H10-value : scan_value (accepted (four 20000 20000 20000 20100) (four 10000 10000 10000 10000)).warm ≡ 240000
+  pub H10_fourth : good (four 20000 20000 20000 20100) (within_limits limits (four 20000 20000 20000 20100)) 50 3 ≡ false
+  pub H10_value : scan_value (accepted (four 20000 20000 20000 20100) (four 10000 10000 10000 10000)).warm ≡ 240000
   -- 20,000 and 20,100 twice each: side bad
   pub H11 : at_least 3 (good_counts limits (four 20000 20000 20100 20100)) ≡ []
   -- warm and cold all 10,000: both bad
@@ -180,22 +180,22 @@ pub record Rows : Type 0 where
 pub record RoundingRows : Type 0 where
   pub half : r (pos 1) (pos 2) ≡ pos 0
   pub three_halves : r (pos 3) (pos 2) ≡ pos 2
-  pub five-halves : r (pos 5) (pos 2) ≡ pos 2
-  pub half-below-zero : r (neg_ℤ (pos 1)) (pos 2) ≡ pos 0
-  pub three-halves-below-zero : r (neg_ℤ (pos 3)) (pos 2) ≡ neg_ℤ (pos 2)
-  pub five-halves-below-zero : r (neg_ℤ (pos 5)) (pos 2) ≡ neg_ℤ (pos 2)
+  pub five_halves : r (pos 5) (pos 2) ≡ pos 2
+  pub half_below_zero : r (neg_ℤ (pos 1)) (pos 2) ≡ pos 0
+  pub three_halves_below_zero : r (neg_ℤ (pos 3)) (pos 2) ≡ neg_ℤ (pos 2)
+  pub five_halves_below_zero : r (neg_ℤ (pos 5)) (pos 2) ≡ neg_ℤ (pos 2)
   pub above_half : r (pos 50001) (pos 100000) ≡ pos 1
-  pub below-three-halves : r (pos 149999) (pos 100000) ≡ pos 1
-  pub above-half-below-zero : r (neg_ℤ (pos 49999)) (pos 100000) ≡ pos 0
-  pub above-three-halves-below-zero : r (neg_ℤ (pos 149999)) (pos 100000) ≡ neg_ℤ (pos 1)
+  pub below_three_halves : r (pos 149999) (pos 100000) ≡ pos 1
+  pub above_half_below_zero : r (neg_ℤ (pos 49999)) (pos 100000) ≡ pos 0
+  pub above_three_halves_below_zero : r (neg_ℤ (pos 149999)) (pos 100000) ≡ neg_ℤ (pos 1)
 
 -- what is delivered for T by c0 and e of both signs; three of the rows round a half, and c0 comes after it
 pub record BiasRows : Type 0 where
-  pub no-bias : biased (pos 0) (pos 0) (pos 565394) ≡ pos 565394
-  pub least-e : biased (pos 4096) (neg_ℤ (pos 32768)) (pos 565395) ≡ pos 286794
-  pub greatest-e : biased (neg_ℤ (pos 4096)) (pos 32767) (pos 565394) ≡ pos 843986
-  pub half-more : biased (neg_ℤ (pos 1)) (pos 1) (pos 32768) ≡ pos 32767
-  pub half-less : biased (pos 1) (neg_ℤ (pos 1)) (pos 32768) ≡ pos 32769
+  pub no_bias : biased (pos 0) (pos 0) (pos 565394) ≡ pos 565394
+  pub least_e : biased (pos 4096) (neg_ℤ (pos 32768)) (pos 565395) ≡ pos 286794
+  pub greatest_e : biased (neg_ℤ (pos 4096)) (pos 32767) (pos 565394) ≡ pos 843986
+  pub half_more : biased (neg_ℤ (pos 1)) (pos 1) (pos 32768) ≡ pos 32767
+  pub half_less : biased (pos 1) (neg_ℤ (pos 1)) (pos 32768) ≡ pos 32769
 
 -- Request W4: pairs at -4, -2, 0, 2 and 5
 abbrev pub rows_pair : ℕ → ShelfPair
@@ -206,15 +206,15 @@ rows_pair j =
 -- TNL by these pairs; three of the rows round a half, and two are at the ends of an i32
 pub record InterpolationRows : Type 0 where
   pub least : tnl_of rows_pair (neg_ℤ (pos 2147483648)) ≡ neg_ℤ (pos 2)
-  pub below-first : tnl_of rows_pair (neg_ℤ (pos 5)) ≡ neg_ℤ (pos 2)
+  pub below_first : tnl_of rows_pair (neg_ℤ (pos 5)) ≡ neg_ℤ (pos 2)
   pub at_first : tnl_of rows_pair (neg_ℤ (pos 4)) ≡ neg_ℤ (pos 2)
-  pub half-below : tnl_of rows_pair (neg_ℤ (pos 3)) ≡ neg_ℤ (pos 2)
+  pub half_below : tnl_of rows_pair (neg_ℤ (pos 3)) ≡ neg_ℤ (pos 2)
   pub at_second : tnl_of rows_pair (neg_ℤ (pos 2)) ≡ neg_ℤ (pos 1)
-  pub half-to-zero : tnl_of rows_pair (neg_ℤ (pos 1)) ≡ pos 0
-  pub half-above : tnl_of rows_pair (pos 1) ≡ pos 0
-  pub third-of-the-way : tnl_of rows_pair (pos 3) ≡ pos 2731
-  pub third-of-the-way-unrounded : unrounded_tnl rows_pair (pos 3) ≡ pos 8194 /ᶠ pos 3
-  pub two-thirds-of-the-way : tnl_of rows_pair (pos 4) ≡ pos 5462
+  pub half_to_zero : tnl_of rows_pair (neg_ℤ (pos 1)) ≡ pos 0
+  pub half_above : tnl_of rows_pair (pos 1) ≡ pos 0
+  pub third_of_the_way : tnl_of rows_pair (pos 3) ≡ pos 2731
+  pub third_of_the_way_unrounded : unrounded_tnl rows_pair (pos 3) ≡ pos 8194 /ᶠ pos 3
+  pub two_thirds_of_the_way : tnl_of rows_pair (pos 4) ≡ pos 5462
   pub at_last : tnl_of rows_pair (pos 5) ≡ pos 8192
   pub above_last : tnl_of rows_pair (pos 6) ≡ pos 8192
   pub greatest : tnl_of rows_pair (pos 2147483647) ≡ pos 8192

@@ -83,24 +83,24 @@ module _ (high : Bool) where
     percent_thermometers = end_of 1 100;
     percent = λ side. end_of 1 100;
     least = λ target. end_of 1 (size_of target);
-    rPam = end_of 1000 4000000;
-    tLow = signed_end 245760;
-    tUpp = signed_end 245760;
-    dT = end_of 0 491520;
+    r_pam = end_of 1000 4000000;
+    t_low = signed_end 245760;
+    t_upp = signed_end 245760;
+    d_t = end_of 0 491520;
     thermometer = end_thermometer;
     channel = λ c. end_channel;
   }
 
   -- a channel's part of a bias file: c0 and e in two's complement
-  unfoldable pub endPart : List ℕ
+  unfoldable pub end_part : List ℕ
   unfolding cells
-  endPart = cells (λ i. u16_bytes (end_of (65536 - 4096) 4096) ++ u16_bytes (end_of 0x8000 0x7FFF)) positions
+  end_part = cells (λ i. u16_bytes (end_of (65536 - 4096) 4096) ++ u16_bytes (end_of 0x8000 0x7FFF)) positions
 
 pub record RangeRows : Type 0 where
-  pub low-ends : values_inside (end_settings false) ≡ true
-  pub high-ends : values_inside (end_settings true) ≡ true
-  pub bias-low-ends : part_inside (endPart false) ≡ true
-  pub bias-high-ends : part_inside (endPart true) ≡ true
+  pub low_ends : values_inside (end_settings false) ≡ true
+  pub high_ends : values_inside (end_settings true) ≡ true
+  pub bias_low_ends : part_inside (end_part false) ≡ true
+  pub bias_high_ends : part_inside (end_part true) ≡ true
 
 -- ---- one thermometer: the number of its refusal, or 0, at these counts, with all R 2,000,000, the bench's coefficients and offset 0
 abbrev pub refusal_at : (pam count : ℕ) → ℕ
@@ -108,23 +108,23 @@ refusal_at pam count = number (reading 2000000 2000000 3850000 1500000 0 pam 0 c
 
 pub record ReadingEnds : Type 0 where
   -- M is F(-245,760) = 12,808,666, and one below
-  pub m-low-at : refusal_at 14213 10851 ≡ 0
-  pub m-low-beyond : refusal_at 9271 7078 ≡ 10
+  pub m_low_at : refusal_at 14213 10851 ≡ 0
+  pub m_low_beyond : refusal_at 9271 7078 ≡ 10
   -- M is F(245,760) = 20,676,006, and one above
-  pub m-high-at : refusal_at 3378 4163 ≡ 0
-  pub m-high-beyond : refusal_at 5947 7329 ≡ 10
+  pub m_high_at : refusal_at 3378 4163 ≡ 0
+  pub m_high_beyond : refusal_at 5947 7329 ≡ 10
 
 -- ---- thermometers of a target; T of 0 °C is 1,118,822
 
--- T_low, T_upp (in two's complement) and dT
-abbrev pub with_tLow : ℕ → Settings
-with_tLow t = settings_with (2 * ages + 9) (u32_bytes t)
+-- T_low, T_upp (in two's complement) and d_t
+abbrev pub with_t_low : ℕ → Settings
+with_t_low t = settings_with (2 * ages + 9) (u32_bytes t)
 
-abbrev pub with_tUpp : ℕ → Settings
-with_tUpp t = settings_with (2 * ages + 13) (u32_bytes t)
+abbrev pub with_t_upp : ℕ → Settings
+with_t_upp t = settings_with (2 * ages + 13) (u32_bytes t)
 
-abbrev pub with_dT : ℕ → Settings
-with_dT d = settings_with (2 * ages + 17) (u32_bytes d)
+abbrev pub with_dt : ℕ → Settings
+with_dt d = settings_with (2 * ages + 17) (u32_bytes d)
 
 -- PAM 20,000 and offset 0: the first n thermometers of each target have one count, and the others another. 20,000 reads 0 °C, 20,002 reads
 -- t = 104, and 0 is refused with 10.
@@ -140,18 +140,18 @@ least_of Wg = 4
 
 pub record ThermometerRows : Type 0 where
   -- all read 0 °C
-  pub low-at : BothTargets (λ target. accepted_thermometers (with_tLow 0) instrument_bytes target ≡ samples_at (size_of target) 1118822)
-  pub low-beyond : BothTargets (λ target. accepted_thermometers (with_tLow 1) instrument_bytes target ≡ [])
-  pub upp-at : BothTargets (λ target. accepted_thermometers (with_tUpp 0) instrument_bytes target ≡ samples_at (size_of target) 1118822)
-  pub upp-beyond : BothTargets (λ target. accepted_thermometers (with_tUpp 0xFFFF_FFFF) instrument_bytes target ≡ [])
+  pub low_at : BothTargets (λ target. accepted_thermometers (with_t_low 0) instrument_bytes target ≡ samples_at (size_of target) 1118822)
+  pub low_beyond : BothTargets (λ target. accepted_thermometers (with_t_low 1) instrument_bytes target ≡ [])
+  pub upp_at : BothTargets (λ target. accepted_thermometers (with_t_upp 0) instrument_bytes target ≡ samples_at (size_of target) 1118822)
+  pub upp_beyond : BothTargets (λ target. accepted_thermometers (with_t_upp 0xFFFF_FFFF) instrument_bytes target ≡ [])
   -- the first of each target is 104 above the others
-  pub difference-at : BothTargets (λ target. accepted_thermometers (with_dT 104) (instrument_with 1 20002 20000) target ≡ record { place = 0; value = 1118926 } ∷ drop 1 (samples_at (size_of target) 1118822))
-  pub difference-beyond : BothTargets (λ target. accepted_thermometers (with_dT 103) (instrument_with 1 20002 20000) target ≡ drop 1 (samples_at (size_of target) 1118822))
+  pub difference_at : BothTargets (λ target. accepted_thermometers (with_dt 104) (instrument_with 1 20002 20000) target ≡ record { place = 0; value = 1118926 } ∷ drop 1 (samples_at (size_of target) 1118822))
+  pub difference_beyond : BothTargets (λ target. accepted_thermometers (with_dt 103) (instrument_with 1 20002 20000) target ≡ drop 1 (samples_at (size_of target) 1118822))
   -- two are 104 above the others, so that each differs from two or more and none is good; with the two dropped first, the others would be
-  pub two-beyond : BothTargets (λ target. accepted_thermometers (with_dT 103) (instrument_with 2 20002 20000) target ≡ [])
+  pub two_beyond : BothTargets (λ target. accepted_thermometers (with_dt 103) (instrument_with 2 20002 20000) target ≡ [])
   -- just the least number are good, and one fewer
   pub least_at : BothTargets (λ target. accepted_thermometers bench_settings (instrument_with (least_of target) 20000 0) target ≡ samples_at (least_of target) 1118822)
-  pub least-beyond : BothTargets (λ target. accepted_thermometers bench_settings (instrument_with (least_of target - 1) 20000 0) target ≡ [])
+  pub least_beyond : BothTargets (λ target. accepted_thermometers bench_settings (instrument_with (least_of target - 1) 20000 0) target ≡ [])
 
 -- ---- counts
 
@@ -191,21 +191,21 @@ warm_from lowest Warm = four 10040 lowest 10030 10020
 warm_from lowest Cold = four 9970 9980 10000 9990
 
 pub record CountRows : Type 0 where
-  pub low-at : BothSides (λ side. accepted_of (limits_to count_of (λ side. 65535)) four_alike side ≡ samples_at 4 (count_of side))
-  pub low-beyond : BothSides (λ side. accepted_of (limits_to (λ side. count_of side + 1) (λ side. 65535)) four_alike side ≡ [])
-  pub upp-at : BothSides (λ side. accepted_of (limits_to (λ side. 1) count_of) four_alike side ≡ samples_at 4 (count_of side))
-  pub upp-beyond : BothSides (λ side. accepted_of (limits_to (λ side. 1) (λ side. count_of side - 1)) four_alike side ≡ [])
+  pub low_at : BothSides (λ side. accepted_of (limits_to count_of (λ side. 65535)) four_alike side ≡ samples_at 4 (count_of side))
+  pub low_beyond : BothSides (λ side. accepted_of (limits_to (λ side. count_of side + 1) (λ side. 65535)) four_alike side ≡ [])
+  pub upp_at : BothSides (λ side. accepted_of (limits_to (λ side. 1) count_of) four_alike side ≡ samples_at 4 (count_of side))
+  pub upp_beyond : BothSides (λ side. accepted_of (limits_to (λ side. 1) (λ side. count_of side - 1)) four_alike side ≡ [])
   -- the first is 50 and 51 above the others, and as far below them
   pub above_at : BothSides (λ side. accepted_of from_one (first_is (λ side. count_of side + 50)) side ≡ record { place = 0; value = count_of side + 50 } ∷ drop 1 (samples_at 4 (count_of side)))
-  pub above-beyond : BothSides (λ side. accepted_of from_one (first_is (λ side. count_of side + 51)) side ≡ drop 1 (samples_at 4 (count_of side)))
+  pub above_beyond : BothSides (λ side. accepted_of from_one (first_is (λ side. count_of side + 51)) side ≡ drop 1 (samples_at 4 (count_of side)))
   pub below_at : BothSides (λ side. accepted_of from_one (first_is (λ side. count_of side - 50)) side ≡ record { place = 0; value = count_of side - 50 } ∷ drop 1 (samples_at 4 (count_of side)))
-  pub below-beyond : BothSides (λ side. accepted_of from_one (first_is (λ side. count_of side - 51)) side ≡ drop 1 (samples_at 4 (count_of side)))
+  pub below_beyond : BothSides (λ side. accepted_of from_one (first_is (λ side. count_of side - 51)) side ≡ drop 1 (samples_at 4 (count_of side)))
   -- three good counts, and two
-  pub three-at : BothSides (λ side. accepted_of from_one (λ side. four (count_of side) (count_of side) (count_of side) 0) side ≡ samples_at 3 (count_of side))
-  pub three-beyond : BothSides (λ side. accepted_of from_one (λ side. four (count_of side) (count_of side) 0 0) side ≡ [])
+  pub three_at : BothSides (λ side. accepted_of from_one (λ side. four (count_of side) (count_of side) (count_of side) 0) side ≡ samples_at 3 (count_of side))
+  pub three_beyond : BothSides (λ side. accepted_of from_one (λ side. four (count_of side) (count_of side) 0 0) side ≡ [])
   -- the lowest good warm is one above the highest good cold, and equal
-  pub overlap-at : BothSides (λ side. length (accepted_of from_one (warm_from 10001) side) ≡ 4)
-  pub overlap-beyond : BothSides (λ side. accepted_of from_one (warm_from 10000) side ≡ [])
+  pub overlap_at : BothSides (λ side. length (accepted_of from_one (warm_from 10001) side) ≡ 4)
+  pub overlap_beyond : BothSides (λ side. accepted_of from_one (warm_from 10000) side ≡ [])
 
 -- ---- flags
 
@@ -217,31 +217,31 @@ with_percentages t w c = settings_with 0 (three_ages ++ three_ages ++ (t ∷ w �
     three_ages = replicate 3 1 ++ replicate (ages - 3) 0
 
 -- sums of a channel with D = Wc
-abbrev pub sums : (sum_vP Ww Wc : ℕ) → Means
-sums sum_vP Ww Wc = record { sum_vP = sum_vP; sum_vPT = 0; Ww = Ww; Aw = 1; Wc = Wc; Ac = 0 }
+abbrev pub sums : (sum_vp Ww Wc : ℕ) → Means
+sums sum_vp Ww Wc = record { sum_vp = sum_vp; sum_vpt = 0; Ww = Ww; Aw = 1; Wc = Wc; Ac = 0 }
 
 -- sums that suffice, with D = Aw - Ac
 abbrev pub count_sums : Target → (Aw Ac : ℕ) → Means
-count_sums target Aw Ac = record { sum_vP = size_of target; sum_vPT = 0; Ww = 1; Aw = Aw; Wc = 1; Ac = Ac }
+count_sums target Aw Ac = record { sum_vp = size_of target; sum_vpt = 0; Ww = 1; Aw = Aw; Wc = 1; Ac = Ac }
 
 pub record FlagRows : Type 0 where
   -- 100 × sum is percentage × whole for each of the three; then one of the sums is 1 less
-  pub percentages-at : BothTargets (λ target. flag_of (with_percentages 100 100 100) target (sums (3 * size_of target) 3 3) ≡ 0)
-  pub thermometers-less : BothTargets (λ target. flag_of (with_percentages 100 100 100) target (sums (3 * size_of target - 1) 3 3) ≡ 1)
-  pub warm-less : BothTargets (λ target. flag_of (with_percentages 100 100 100) target (sums (3 * size_of target) 2 3) ≡ 2)
-  pub cold-less : BothTargets (λ target. flag_of (with_percentages 100 100 100) target (sums (3 * size_of target) 3 2) ≡ 3)
+  pub percentages_at : BothTargets (λ target. flag_of (with_percentages 100 100 100) target (sums (3 * size_of target) 3 3) ≡ 0)
+  pub thermometers_less : BothTargets (λ target. flag_of (with_percentages 100 100 100) target (sums (3 * size_of target - 1) 3 3) ≡ 1)
+  pub warm_less : BothTargets (λ target. flag_of (with_percentages 100 100 100) target (sums (3 * size_of target) 2 3) ≡ 2)
+  pub cold_less : BothTargets (λ target. flag_of (with_percentages 100 100 100) target (sums (3 * size_of target) 3 2) ≡ 3)
   -- 100 × sum is one below percentage × whole: 81 × 21 = 1,701 and 67 × 3 = 201. For KAV's 24 no product is one above a multiple of 100.
-  pub thermometers-beyond : flag_of (with_percentages 81 1 1) Wg (sums 17 3 3) ≡ 1
-  pub warm-beyond : BothTargets (λ target. flag_of (with_percentages 1 67 1) target (sums (3 * size_of target) 2 3) ≡ 2)
-  pub cold-beyond : BothTargets (λ target. flag_of (with_percentages 1 1 67) target (sums (3 * size_of target) 3 2) ≡ 3)
+  pub thermometers_beyond : flag_of (with_percentages 81 1 1) Wg (sums 17 3 3) ≡ 1
+  pub warm_beyond : BothTargets (λ target. flag_of (with_percentages 1 67 1) target (sums (3 * size_of target) 2 3) ≡ 2)
+  pub cold_beyond : BothTargets (λ target. flag_of (with_percentages 1 1 67) target (sums (3 * size_of target) 3 2) ≡ 3)
   -- D is 1, 0 and -1
-  pub d-one : BothTargets (λ target. flag_of bench_settings target (count_sums target 120001 120000) ≡ 0)
-  pub d-zero : BothTargets (λ target. flag_of bench_settings target (count_sums target 120000 120000) ≡ 4)
-  pub d-below : BothTargets (λ target. flag_of bench_settings target (count_sums target 119999 120000) ≡ 4)
+  pub d_one : BothTargets (λ target. flag_of bench_settings target (count_sums target 120001 120000) ≡ 0)
+  pub d_zero : BothTargets (λ target. flag_of bench_settings target (count_sums target 120000 120000) ≡ 4)
+  pub d_below : BothTargets (λ target. flag_of bench_settings target (count_sums target 119999 120000) ≡ 4)
   -- where several apply, the first decides
   pub one_of_all : BothTargets (λ target. flag_of (with_percentages 100 100 100) target (sums 0 0 0) ≡ 1)
-  pub two-before-three : BothTargets (λ target. flag_of (with_percentages 100 100 100) target (sums (3 * size_of target) 0 0) ≡ 2)
-  pub three-before-four : BothTargets (λ target. flag_of (with_percentages 100 100 100) target (sums (3 * size_of target) 3 0) ≡ 3)
+  pub two_before_three : BothTargets (λ target. flag_of (with_percentages 100 100 100) target (sums (3 * size_of target) 0 0) ≡ 2)
+  pub three_before_four : BothTargets (λ target. flag_of (with_percentages 100 100 100) target (sums (3 * size_of target) 3 0) ≡ 3)
 
 -- ---- ages; every w and every v is 1
 
@@ -251,12 +251,12 @@ even_weights = settings_with 0 (replicate (2 * ages) 1)
 -- the sums of n scans with the counts of the bench scan
 abbrev pub sums_of_scans : ℕ → Target → Means
 sums_of_scans n target =
-    record { sum_vP = n * size_of target; sum_vPT = n * (size_of target * 1118822); Ww = n; Aw = n * 240000; Wc = n; Ac = n * 120000 }
+    record { sum_vp = n * size_of target; sum_vpt = n * (size_of target * 1118822); Ww = n; Aw = n * 240000; Wc = n; Ac = n * 120000 }
 
 -- the bench scan, number 7, counts at number 14 and not at 15
 pub record AgeRows : Type 0 where
-  pub age-at : (c : ℕ) → c < channels → means_at even_weights (fed_moment (bench_scan 15000 ∷ []) (numbered_scan 14 15000)) c ≡ sums_of_scans 2 (target_of c)
-  pub age-beyond : (c : ℕ) → c < channels → means_at even_weights (fed_moment (bench_scan 15000 ∷ []) (numbered_scan 15 15000)) c ≡ sums_of_scans 1 (target_of c)
+  pub age_at : (c : ℕ) → c < channels → means_at even_weights (fed_moment (bench_scan 15000 ∷ []) (numbered_scan 14 15000)) c ≡ sums_of_scans 2 (target_of c)
+  pub age_beyond : (c : ℕ) → c < channels → means_at even_weights (fed_moment (bench_scan 15000 ∷ []) (numbered_scan 15 15000)) c ≡ sums_of_scans 1 (target_of c)
 
 pub record BoundaryRows : Type 0 where
   pub ranges : RangeRows

@@ -4,13 +4,13 @@ use Rattle.std.specs.Prelude.{ℕ, ◌+◌, ◌*◌, ◌<◌, ◌≤◌, ◌≡�
 use Rattle.lists.specs.Build.{put}
 use Rattle.lists.specs.Tests.{Verdict, fails, Test, ◌when◌}
 use Rattle.fields.specs.Fields.{Field, field_at, field_bytes, layout_size, layout_is_right, value_start}
-use Rattle.thermometer.specs.Reading.{notRead, resistance_inside, coefficients_inside, reading, from_to}
+use Rattle.thermometer.specs.Reading.{not_read, resistance_inside, coefficients_inside, reading, from_to}
 use Rattle.table.specs.Settings.{table_layout, settings_of}
 use Rattle.table.specs.Ranges.{values_inside}
 use Rattle.table.specs.Opening.{ages, table_size, opening}
 use Rattle.bias.specs.Bias.{bias_layout, bias_size}
 use Rattle.bias.specs.Opening.{bias_inside, bias_opening, both_opening}
-use Rattle.lookup.specs.Lookup.{refusedWith}
+use Rattle.lookup.specs.Lookup.{refused_with}
 use Rattle.calibrator.specs.Refusals.{wrong_length, wrong_field, not_above, too_short, refused}
 use Rattle.calibrator.specs.Feeding.{Feed, outcome_after}
 use Rattle.promise.specs.Roll.{Roll, begun, last_number, verdict_at}
@@ -47,12 +47,12 @@ pub record FeedRows (buffer short : List ℕ) : Type 0 where
   -- no byte
   pub four_of_all : FeedRefused buffer short [] 4 (5 ∷ 6 ∷ 7 ∷ [])
   -- a byte too many, behind right tags and lengths
-  pub four-with-right-tags : FeedRefused buffer short (bench_scan 15000 ++ (0 ∷ [])) 4 (6 ∷ 7 ∷ [])
-  pub five-before-six : FeedRefused buffer short zeros 5 (6 ∷ 7 ∷ [])
+  pub four_with_right_tags : FeedRefused buffer short (bench_scan 15000 ++ (0 ∷ [])) 4 (6 ∷ 7 ∷ [])
+  pub five_before_six : FeedRefused buffer short zeros 5 (6 ∷ 7 ∷ [])
   -- the same record once more
-  pub six-before-seven : FeedRefused buffer short (bench_scan 15000) 6 (7 ∷ [])
+  pub six_before_seven : FeedRefused buffer short (bench_scan 15000) 6 (7 ∷ [])
   -- the next number
-  pub seven-alone : FeedRefused buffer short (numbered_scan 8 15000) 7 []
+  pub seven_alone : FeedRefused buffer short (numbered_scan 8 15000) 7 []
 
 -- ---- opening
 
@@ -77,29 +77,29 @@ unfoldable pub bias_outside : List ℕ
 bias_outside = replicate bias_size 0x7F
 
 pub record OpeningRows : Type 0 where
-  pub table-one-of-all : TableRefused [] 1 (2 ∷ 3 ∷ [])
-  pub table-two-before-three : TableRefused (replicate table_size 0) 2 (3 ∷ [])
-  pub table-three-alone : TableRefused table_outside 3 []
-  pub bias-one-of-all : BiasRefused (0x7F ∷ bias_outside) 1 (2 ∷ 3 ∷ [])
-  pub bias-two-before-three : BiasRefused bias_outside 2 (3 ∷ [])
-  pub bias-three-alone : BiasRefused (field_bytes (field_at bias_layout 0) (replicate (field_at bias_layout 0).size 0x7F)) 3 []
+  pub table_one_of_all : TableRefused [] 1 (2 ∷ 3 ∷ [])
+  pub table_two_before_three : TableRefused (replicate table_size 0) 2 (3 ∷ [])
+  pub table_three_alone : TableRefused table_outside 3 []
+  pub bias_one_of_all : BiasRefused (0x7F ∷ bias_outside) 1 (2 ∷ 3 ∷ [])
+  pub bias_two_before_three : BiasRefused bias_outside 2 (3 ∷ [])
+  pub bias_three_alone : BiasRefused (field_bytes (field_at bias_layout 0) (replicate (field_at bias_layout 0).size 0x7F)) 3 []
   -- where both are opened the table comes first
-  pub table-before-bias : (both_opening table_outside [] ≡ fails 3) × (bias_opening [] ≡ fails 1)
+  pub table_before_bias : (both_opening table_outside [] ≡ fails 3) × (bias_opening [] ≡ fails 1)
 
 -- ---- one thermometer, with the bench's R0 and coefficients
 
-abbrev pub reading_tests : (rPam r0 alpha delta beta pam offset count : ℕ) → List Test
-reading_tests rPam r0 alpha delta beta pam offset count =
-    (8 when not (resistance_inside rPam && coefficients_inside r0 alpha delta beta)) ∷ (9 when leb pam offset) ∷ (10 when ltb count offset) ∷ []
+abbrev pub reading_tests : (r_pam r0 alpha delta beta pam offset count : ℕ) → List Test
+reading_tests r_pam r0 alpha delta beta pam offset count =
+    (8 when not (resistance_inside r_pam && coefficients_inside r0 alpha delta beta)) ∷ (9 when leb pam offset) ∷ (10 when ltb count offset) ∷ []
 
-abbrev pub ReadingRefused : (rPam pam offset count : ℕ) (first : ℕ) (more : List ℕ) → Type 0
-ReadingRefused rPam pam offset count first more =
-    (that_apply (reading_tests rPam 2000000 3850000 1500000 0 pam offset count) ≡ first ∷ more) × (reading rPam 2000000 3850000 1500000 0 pam offset count ≡ notRead first)
+abbrev pub ReadingRefused : (r_pam pam offset count : ℕ) (first : ℕ) (more : List ℕ) → Type 0
+ReadingRefused r_pam pam offset count first more =
+    (that_apply (reading_tests r_pam 2000000 3850000 1500000 0 pam offset count) ≡ first ∷ more) × (reading r_pam 2000000 3850000 1500000 0 pam offset count ≡ not_read first)
 
 pub record ReadingRows : Type 0 where
-  pub eight-of-all : ReadingRefused 999 100 100 99 8 (9 ∷ 10 ∷ [])
-  pub nine-before-ten : ReadingRefused 1000 100 100 99 9 (10 ∷ [])
-  pub ten-alone : ReadingRefused 1000 101 100 99 10 []
+  pub eight_of_all : ReadingRefused 999 100 100 99 8 (9 ∷ 10 ∷ [])
+  pub nine_before_ten : ReadingRefused 1000 100 100 99 9 (10 ∷ [])
+  pub ten_alone : ReadingRefused 1000 101 100 99 10 []
 
 -- ---- the count behind a temperature, where no scan has been accepted
 
@@ -107,13 +107,13 @@ abbrev pub lookup_tests : ℕ → List Test
 lookup_tests channel = (11 when not (from_to 1 22 channel)) ∷ (12 when not bench_calibrator.last.any) ∷ []
 
 abbrev pub LookupRefused : (channel : ℕ) (first : ℕ) (more : List ℕ) → Type 0
-LookupRefused channel first more = (that_apply (lookup_tests channel) ≡ first ∷ more) × ((wanted : ℕ) → answer_of bench_calibrator channel wanted ≡ refusedWith first)
+LookupRefused channel first more = (that_apply (lookup_tests channel) ≡ first ∷ more) × ((wanted : ℕ) → answer_of bench_calibrator channel wanted ≡ refused_with first)
 
 pub record LookupRows : Type 0 where
-  pub eleven-below : LookupRefused 0 11 (12 ∷ [])
-  pub eleven-above : LookupRefused 23 11 (12 ∷ [])
-  pub twelve-at-first : LookupRefused 1 12 []
-  pub twelve-at-last : LookupRefused 22 12 []
+  pub eleven_below : LookupRefused 0 11 (12 ∷ [])
+  pub eleven_above : LookupRefused 23 11 (12 ∷ [])
+  pub twelve_at_first : LookupRefused 1 12 []
+  pub twelve_at_last : LookupRefused 22 12 []
 
 pub record RefusalRows : Type 0 where
   -- with every buffer that has room, and every one that has not

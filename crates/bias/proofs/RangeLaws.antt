@@ -24,6 +24,6 @@ accepted_bias_ranges {bias} file c below i inside =
     let e = signed_range 0x8000 (u16_at part at) (u16_below part (part_bytes bias file.bytes c) at) in
     record {
       c0 = bounded (each_of_every pairTest positions i (each_of_every partTest channels c (accepted_bias_tests file).holds below) inside);
-      e-low = e.0;
-      e-high = e.1;
+      e_low = e.0;
+      e_high = e.1;
     }

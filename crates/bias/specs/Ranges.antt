@@ -7,8 +7,8 @@ use Rattle.bias.specs.Bias.{c0_in, e_in}
 -- c0 is from -4,096 to 4,096, and e from -32,768 to 32,767
 pub record PairRange (part : List ℕ) (i : ℕ) : Type 0 where
   pub c0 : Bounded (c0_in part i) (pos 4096)
-  pub e-low : neg_ℤ (pos 32768) ≤ℤ e_in part i
-  pub e-high : e_in part i ≤ℤ pos 32767
+  pub e_low : neg_ℤ (pos 32768) ≤ℤ e_in part i
+  pub e_high : e_in part i ≤ℤ pos 32767
 
 abbrev pub PartRange : List ℕ → Type 0
 PartRange part = (i : ℕ) → i < positions → PairRange part i

@@ -44,7 +44,7 @@ distance_weaker {limit} {more} {t} {e} p q h d = record {
 pub near_of_distance : {limit e : Fraction} {t : ℤ} {a : Fraction} → Equal a (whole t) → Distance limit t e → Near limit a e
 near_of_distance {limit} {e} {t} {a} is h = record {
   left_above = is.left_above;
-  right-above = h.den_above;
+  right_above = h.den_above;
   apart = bounded_equal
       ((ring (limit.den ∷ t ∷ e.den ∷ e.num ∷ a.den ∷ []) (v0 :* (v1 :* v2 :- v3) :* v4) (v0 :* (v1 :* v4 :* v2 :- v3 :* v4)) tt)
       ∙ ap (λ n. limit.den *ℤ (n *ℤ e.den -ℤ e.num *ℤ a.den)) (sym is.same ∙ times_one a.num))
@@ -56,13 +56,13 @@ near_of_distance {limit} {e} {t} {a} is h = record {
 pub below_same_left : {a b c : Fraction} → Equal a b → Below b c → Below a c
 below_same_left {a} {b} {c} s h = record {
   left_above = s.left_above;
-  right-above = h.right-above;
-  below = (lt_by (a.num ∷ a.den ∷ b.num ∷ b.den ∷ c.num ∷ c.den ∷ []) ((# 0 :< v1) ∷ (# 0 :< v3) ∷ (v0 :* v3 :≡ v2 :* v1) ∷ (v2 :* v5 :< v4 :* v3) ∷ []) (v0 :* v5) (v4 :* v1) (hyp 0 ⊕ hyp 1 ⊕ hyp 4 ⊕ hyp 0 ⊗ hyp 2 ⊕ hyp 1 ⊗ hyp 4 ⊕ tim (# 1 :* v5) 3) tt s.left_above s.right-above s.same h.below);
+  right_above = h.right_above;
+  below = (lt_by (a.num ∷ a.den ∷ b.num ∷ b.den ∷ c.num ∷ c.den ∷ []) ((# 0 :< v1) ∷ (# 0 :< v3) ∷ (v0 :* v3 :≡ v2 :* v1) ∷ (v2 :* v5 :< v4 :* v3) ∷ []) (v0 :* v5) (v4 :* v1) (hyp 0 ⊕ hyp 1 ⊕ hyp 4 ⊕ hyp 0 ⊗ hyp 2 ⊕ hyp 1 ⊗ hyp 4 ⊕ tim (# 1 :* v5) 3) tt s.left_above s.right_above s.same h.below);
 }
 
 pub below_same_right : {a b c : Fraction} → Equal c b → Below a b → Below a c
 below_same_right {a} {b} {c} s h = record {
   left_above = h.left_above;
-  right-above = s.left_above;
-  below = (lt_by (a.num ∷ a.den ∷ b.num ∷ b.den ∷ c.num ∷ c.den ∷ []) ((# 0 :< v5) ∷ (# 0 :< v3) ∷ (v4 :* v3 :≡ v2 :* v5) ∷ (v0 :* v3 :< v2 :* v1) ∷ []) (v0 :* v5) (v4 :* v1) (hyp 0 ⊕ hyp 1 ⊕ hyp 4 ⊕ hyp 0 ⊗ hyp 2 ⊕ hyp 1 ⊗ hyp 4 ⊕ tim (opp (# 1 :* v1)) 3) tt s.left_above s.right-above s.same h.below);
+  right_above = s.left_above;
+  below = (lt_by (a.num ∷ a.den ∷ b.num ∷ b.den ∷ c.num ∷ c.den ∷ []) ((# 0 :< v5) ∷ (# 0 :< v3) ∷ (v4 :* v3 :≡ v2 :* v5) ∷ (v0 :* v3 :< v2 :* v1) ∷ []) (v0 :* v5) (v4 :* v1) (hyp 0 ⊕ hyp 1 ⊕ hyp 4 ⊕ hyp 0 ⊗ hyp 2 ⊕ hyp 1 ⊗ hyp 4 ⊕ tim (opp (# 1 :* v1)) 3) tt s.left_above s.right_above s.same h.below);
 }

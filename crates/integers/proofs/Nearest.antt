@@ -67,12 +67,12 @@ module _ (a : ℤ) {b : ℤ} (p : pos 0 <ℤ b) where
       (lt_by (a ∷ b ∷ (floor a b) ∷ []) ((v1 :- (v0 :- v1 :* v2) :< v0 :- v1 :* v2) ∷ []) (# 2 :* (v1 :* (v2 :+ # 1) :- v0)) v1 (hyp 0 ⊕ hyp 1) tt h)
 
   -- midway: the floor is a half below, and the number after it a half above
-  even-of-both : a -ℤ b *ℤ floor a b ≡ b -ℤ (a -ℤ b *ℤ floor a b) → (t : Bool) → is_even (floor a b) ≡ t → NearestEven a b (cond t (floor a b) (floor a b +ℤ pos 1))
-  even-of-both e true h = even_at_half p (inr
+  even_of_both : a -ℤ b *ℤ floor a b ≡ b -ℤ (a -ℤ b *ℤ floor a b) → (t : Bool) → is_even (floor a b) ≡ t → NearestEven a b (cond t (floor a b) (floor a b +ℤ pos 1))
+  even_of_both e true h = even_at_half p (inr
       ((ring (a ∷ b ∷ (floor a b) ∷ []) (# 2 :* (v1 :* v2 :- v0)) (opp (v0 :- v1 :* v2 :+ (v0 :- v1 :* v2))) tt)
       ∙ ap (λ z. neg_ℤ (a -ℤ b *ℤ floor a b +ℤ z)) e
       ∙ (ring (a ∷ b ∷ (floor a b) ∷ []) (opp (v0 :- v1 :* v2 :+ (v1 :- (v0 :- v1 :* v2)))) (opp v1) tt))) h
-  even-of-both e false h = even_at_half p (inl
+  even_of_both e false h = even_at_half p (inl
       ((ring (a ∷ b ∷ (floor a b) ∷ []) (# 2 :* (v1 :* (v2 :+ # 1) :- v0)) (v1 :- (v0 :- v1 :* v2) :+ (v1 :- (v0 :- v1 :* v2))) tt)
       ∙ ap (λ z. z +ℤ (b -ℤ (a -ℤ b *ℤ floor a b))) (sym e)
       ∙ (ring (a ∷ b ∷ (floor a b) ∷ []) (v0 :- v1 :* v2 :+ (v1 :- (v0 :- v1 :* v2))) v1 tt))) (after_odd (floor a b) h)
@@ -83,7 +83,7 @@ module _ (a : ℤ) {b : ℤ} (p : pos 0 <ℤ b) where
       let short = b -ℤ (a -ℤ b *ℤ floor a b) in
       ⊎_elim
       (λ h. ⊎_elim
-      (λ k. let e = at_most_antisym k h in subst (NearestEven a b) (r_midway a b e) (even-of-both e (is_even (floor a b)) refl))
+      (λ k. let e = at_most_antisym k h in subst (NearestEven a b) (r_midway a b e) (even_of_both e (is_even (floor a b)) refl))
       (λ k. subst (NearestEven a b) (r_above_floor a b k) (next_nearest k))
       (at_most_or_above past short))
       (λ h. subst (NearestEven a b) (r_is_floor a b h) (floor_nearest h))
@@ -98,8 +98,8 @@ module _ (a : ℤ) {b : ℤ} (p : pos 0 <ℤ b) where
 -- ---- and no other number is
 module _ {a b q s : ℤ} (p : pos 0 <ℤ b) (of-q : NearestEven a b q) (of-s : NearestEven a b s) where
   -- of two different ones the lower would be a half below a / b and the higher, the next number, a half above it: both even
-  not-two : q <ℤ s → ⊥
-  not-two h =
+  not_two : q <ℤ s → ⊥
+  not_two h =
       let next : s ≡ q +ℤ pos 1 = at_most_antisym
       (le_by (a ∷ b ∷ q ∷ s ∷ []) ((# 0 :< v1) ∷ (opp v1 :≤ # 2 :* (v1 :* v2 :- v0)) ∷ (# 2 :* (v1 :* v3 :- v0) :≤ v1) ∷ []) v3 (v2 :+ # 1) (nat 2 ⊗ hyp 0 ⊕ nat 2 ⊗ hyp 1 ⊕ hyp 2 ⊕ hyp 3 ⊕ nat 2 ⊗ hyp 0 ⊗ hyp 1) tt p of-q.near.twice.low of-s.near.twice.high)
       (le_by (q ∷ s ∷ []) ((v0 :< v1) ∷ []) (v0 :+ # 1) v1 (hyp 0 ⊕ hyp 1) tt h) in
@@ -112,7 +112,7 @@ module _ {a b q s : ℤ} (p : pos 0 <ℤ b) (of-q : NearestEven a b q) (of-s : N
       one_after_even q (of-q.even (inr lower)) (subst (λ z. is_even z ≡ true) next (of-s.even (inl higher)))
 
   not_below : s ≤ℤ q
-  not_below = ⊎_elim (λ h. h) (λ h. absurd (not-two h)) (at_most_or_above s q)
+  not_below = ⊎_elim (λ h. h) (λ h. absurd (not_two h)) (at_most_or_above s q)
 
 pub r_unique : (a : ℤ) {b q : ℤ} → pos 0 <ℤ b → NearestEven a b q → q ≡ r a b
 r_unique a p of-q = at_most_antisym (not_below p (r_nearest_even a p) of-q) (not_below p of-q (r_nearest_even a p))
@@ -139,14 +139,14 @@ r_is_nearest_even_says law a b p =
 -- ---- by the floor of (2a + b) / (2b), which is nearest with halves up
 module _ (a : ℤ) {b : ℤ} (up : ℤ) (p : pos 0 <ℤ b) where
   -- no half: something is left
-  pub r-when-rest : (pos 2 *ℤ a +ℤ b) <ℤ (pos 2 *ℤ b *ℤ up +ℤ pos 2 *ℤ b) → pos 0 <ℤ (pos 2 *ℤ a +ℤ b -ℤ pos 2 *ℤ b *ℤ up) → up ≡ r a b
-  r-when-rest high rest = r_unique a p (nearer_than_half
+  pub r_when_rest : (pos 2 *ℤ a +ℤ b) <ℤ (pos 2 *ℤ b *ℤ up +ℤ pos 2 *ℤ b) → pos 0 <ℤ (pos 2 *ℤ a +ℤ b -ℤ pos 2 *ℤ b *ℤ up) → up ≡ r a b
+  r_when_rest high rest = r_unique a p (nearer_than_half
       (lt_by (a ∷ b ∷ up ∷ []) ((# 2 :* v0 :+ v1 :< # 2 :* v1 :* v2 :+ # 2 :* v1) ∷ []) (opp v1) (# 2 :* (v1 :* v2 :- v0)) (hyp 0 ⊕ hyp 1) tt high)
       (lt_by (a ∷ b ∷ up ∷ []) ((# 0 :< # 2 :* v0 :+ v1 :- # 2 :* v1 :* v2) ∷ []) (# 2 :* (v1 :* v2 :- v0)) v1 (hyp 0 ⊕ hyp 1) tt rest))
 
   -- nothing is left: it is a half above, and the number before it a half below
-  pub r-at-even-half : pos 2 *ℤ a +ℤ b -ℤ pos 2 *ℤ b *ℤ up ≡ pos 0 → is_even up ≡ true → up ≡ r a b
-  r-at-even-half e is-even = r_unique a p (even_at_half p (inl
+  pub r_at_even_half : pos 2 *ℤ a +ℤ b -ℤ pos 2 *ℤ b *ℤ up ≡ pos 0 → is_even up ≡ true → up ≡ r a b
+  r_at_even_half e is-even = r_unique a p (even_at_half p (inl
       ((ring (a ∷ b ∷ up ∷ []) (# 2 :* (v1 :* v2 :- v0)) (v1 :- (# 2 :* v0 :+ v1 :- # 2 :* v1 :* v2)) tt)
       ∙ ap (λ z. b -ℤ z) e
       ∙ (ring (b ∷ []) (v0 :- # 0) v0 tt))) is-even)
@@ -184,16 +184,16 @@ module _ (a h : ℕ) (p : 0 < h) where
   last_bit = natural_at_most (omega arith)
 
   -- a half above a / 2h: the quotient is the number before, and odd
-  even-above : pos 2 *ℤ (pos 2 *ℤ pos h *ℤ pos nearest -ℤ pos a) ≡ pos 2 *ℤ pos h → is_even (pos nearest) ≡ true
-  even-above e =
+  even_above : pos 2 *ℤ (pos 2 *ℤ pos h *ℤ pos nearest -ℤ pos a) ≡ pos 2 *ℤ pos h → is_even (pos nearest) ≡ true
+  even_above e =
       let odd : 1 ≤ quotient % 2 = at_most_natural ((le_by ((pos a) ∷ (pos h) ∷ (pos nearest) ∷ (pos (quotient % 2)) ∷ []) ((# 2 :* (# 2 :* v1 :* v2 :- v0) :≡ # 2 :* v1) ∷ (# 2 :* v1 :* v2 :< v0 :+ v1 :+ v3) ∷ []) (# 1) v3 (nat 2 ⊗ hyp 0 ⊕ nat 2 ⊗ hyp 2 ⊕ tim (opp (# 1)) 1) tt e nearest_low)) in
       let before : quotient + 1 ≤ nearest = at_most_natural ((le_by ((pos a) ∷ (pos h) ∷ (pos nearest) ∷ (pos quotient) ∷ []) ((# 0 :< v1) ∷ (# 2 :* (# 2 :* v1 :* v2 :- v0) :≡ # 2 :* v1) ∷ (# 2 :* v1 :* v3 :≤ v0) ∷ []) (v3 :+ # 1) v2 (nat 4 ⊗ hyp 0 ⊕ nat 2 ⊗ hyp 1 ⊕ nat 2 ⊗ hyp 3 ⊕ nat 4 ⊗ hyp 0 ⊗ hyp 1 ⊕ tim (opp (# 1)) 2) tt (natural_below p) e quotient_low)) in
       let after : nearest ≤ quotient + 1 = at_most_natural ((le_by ((pos a) ∷ (pos h) ∷ (pos nearest) ∷ (pos quotient) ∷ []) ((# 0 :< v1) ∷ (# 2 :* (# 2 :* v1 :* v2 :- v0) :≡ # 2 :* v1) ∷ (v0 :< # 2 :* v1 :* v3 :+ # 2 :* v1) ∷ []) v2 (v3 :+ # 1) (nat 4 ⊗ hyp 0 ⊕ nat 2 ⊗ hyp 1 ⊕ hyp 2 ⊕ nat 2 ⊗ hyp 3 ⊕ nat 4 ⊗ hyp 0 ⊗ hyp 1) tt (natural_below p) e quotient_high)) in
       eq-eqb (nearest % 2) 0 (omega arith)
 
   -- a half below it: the quotient is the number itself, and even
-  even-below : pos 2 *ℤ (pos 2 *ℤ pos h *ℤ pos nearest -ℤ pos a) ≡ neg_ℤ (pos 2 *ℤ pos h) → is_even (pos nearest) ≡ true
-  even-below e =
+  even_below : pos 2 *ℤ (pos 2 *ℤ pos h *ℤ pos nearest -ℤ pos a) ≡ neg_ℤ (pos 2 *ℤ pos h) → is_even (pos nearest) ≡ true
+  even_below e =
       let even : quotient % 2 ≤ 0 = at_most_natural ((le_by ((pos a) ∷ (pos h) ∷ (pos nearest) ∷ (pos (quotient % 2)) ∷ []) ((# 2 :* (# 2 :* v1 :* v2 :- v0) :≡ opp (# 2 :* v1)) ∷ (v0 :+ v1 :+ v3 :≤ # 2 :* v1 :* v2 :+ # 2 :* v1) ∷ []) v3 (# 0) (nat 2 ⊗ hyp 0 ⊕ hyp 1 ⊕ nat 2 ⊗ hyp 2) tt e nearest_high)) in
       let not_after : quotient ≤ nearest = at_most_natural ((le_by ((pos a) ∷ (pos h) ∷ (pos nearest) ∷ (pos quotient) ∷ []) ((# 0 :< v1) ∷ (# 2 :* (# 2 :* v1 :* v2 :- v0) :≡ opp (# 2 :* v1)) ∷ (# 2 :* v1 :* v3 :≤ v0) ∷ []) v3 v2 (nat 4 ⊗ hyp 0 ⊕ nat 2 ⊗ hyp 1 ⊕ nat 2 ⊗ hyp 3 ⊕ nat 4 ⊗ hyp 0 ⊗ hyp 1 ⊕ tim (opp (# 1)) 2) tt (natural_below p) e quotient_low)) in
       let not-before : nearest ≤ quotient = at_most_natural ((le_by ((pos a) ∷ (pos h) ∷ (pos nearest) ∷ (pos quotient) ∷ []) ((# 0 :< v1) ∷ (# 2 :* (# 2 :* v1 :* v2 :- v0) :≡ opp (# 2 :* v1)) ∷ (v0 :< # 2 :* v1 :* v3 :+ # 2 :* v1) ∷ []) v2 v3 (nat 4 ⊗ hyp 0 ⊕ nat 2 ⊗ hyp 1 ⊕ hyp 2 ⊕ nat 2 ⊗ hyp 3 ⊕ nat 4 ⊗ hyp 0 ⊗ hyp 1) tt (natural_below p) e quotient_high)) in
@@ -207,7 +207,7 @@ module _ (a h : ℕ) (p : 0 < h) where
         high = (le_by ((pos a) ∷ (pos h) ∷ (pos nearest) ∷ (pos (quotient % 2)) ∷ []) ((# 2 :* v1 :* v2 :< v0 :+ v1 :+ v3) ∷ (v3 :≤ # 1) ∷ []) (# 2 :* (# 2 :* v1 :* v2 :- v0)) (# 2 :* v1) (hyp 0 ⊕ nat 2 ⊗ hyp 1 ⊕ nat 2 ⊗ hyp 2) tt nearest_low last_bit);
       };
     };
-    even = ⊎_elim even-above even-below;
+    even = ⊎_elim even_above even_below;
   })
 
 -- an even number of whole numbers more is as many more after it

@@ -41,19 +41,19 @@ a <ᶠ b = (a.num *ℤ b.den) <ℤ (b.num *ℤ a.den)
 -- a and b are equal
 pub record Equal (a b : Fraction) : Type 0 where
   pub left_above : pos 0 <ℤ a.den
-  pub right-above : pos 0 <ℤ b.den
+  pub right_above : pos 0 <ℤ b.den
   pub same : a ≡ᶠ b
 
 -- a is below b
 pub record Below (a b : Fraction) : Type 0 where
   pub left_above : pos 0 <ℤ a.den
-  pub right-above : pos 0 <ℤ b.den
+  pub right_above : pos 0 <ℤ b.den
   pub below : a <ᶠ b
 
 -- a and b are at most `limit` apart
 pub record Near (limit a b : Fraction) : Type 0 where
   pub left_above : pos 0 <ℤ a.den
-  pub right-above : pos 0 <ℤ b.den
+  pub right_above : pos 0 <ℤ b.den
   pub apart : Bounded (limit.den *ℤ (a.num *ℤ b.den -ℤ b.num *ℤ a.den)) (limit.num *ℤ (a.den *ℤ b.den))
 
 -- the whole number t is at most `limit` from e

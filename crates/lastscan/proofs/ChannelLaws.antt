@@ -54,7 +54,7 @@ pub channel_read_back : {channel : Channel} → SmallChannel channel → channel
 unfolding channel_by
 channel_read_back {channel} small =
     let k = channel.constants in
-    rw (halves_read_back k.d, halves_read_back k.base, complement_read_back small.tnl, natural_read_back small.tc_low, natural_read_back small.rise-low, natural_read_back small.d-low, natural_read_back small.slope-low, natural_read_back small.base-low)
+    rw (halves_read_back k.d, halves_read_back k.base, complement_read_back small.tnl, natural_read_back small.tc_low, natural_read_back small.rise_low, natural_read_back small.d_low, natural_read_back small.slope_low, natural_read_back small.base_low)
 
 -- ---- a kept channel passes the test
 
@@ -66,11 +66,11 @@ constants_are_inside : (channel : Channel) → ConstantsRange channel.constants 
 unfolding constants_inside
 constants_are_inside channel range =
     let k = channel.constants in
-    let reach : k.d ≤ℤ pos (65535 * nat_abs k.slope) = subst (λ slope. k.d ≤ℤ (pos 65535 *ℤ slope)) (sym (natural_read_back range.slope-low)) range.reach in
-    let above_zero : pos 1 ≤ℤ k.d = omega (arith, order, range.d-low) in
-    let slope-small : nat_abs k.slope ≤ 780300 = bounded_size (bounded_not_negative range.slope-low range.slope-high) in
-    let base-small : nat_abs k.base ≤ 51136960500 = bounded_size (bounded_not_negative range.base-low range.base-high) in
-    rw (halves_read_back k.d, halves_read_back k.base, complement_read_back range.tnl, between_is_inside range.tc_low range.tc-high, between_is_inside range.rise-low range.rise-high, at_most_test range.tnl.low, at_most_test range.tnl.high, between_is_inside above_zero reach, le-leb _ _ slope-small, le-leb _ _ base-small)
+    let reach : k.d ≤ℤ pos (65535 * nat_abs k.slope) = subst (λ slope. k.d ≤ℤ (pos 65535 *ℤ slope)) (sym (natural_read_back range.slope_low)) range.reach in
+    let above_zero : pos 1 ≤ℤ k.d = omega (arith, order, range.d_low) in
+    let slope-small : nat_abs k.slope ≤ 780300 = bounded_size (bounded_not_negative range.slope_low range.slope_high) in
+    let base-small : nat_abs k.base ≤ 51136960500 = bounded_size (bounded_not_negative range.base_low range.base_high) in
+    rw (halves_read_back k.d, halves_read_back k.base, complement_read_back range.tnl, between_is_inside range.tc_low range.tc_high, between_is_inside range.rise_low range.rise_high, at_most_test range.tnl.low, at_most_test range.tnl.high, between_is_inside above_zero reach, le-leb _ _ slope-small, le-leb _ _ base-small)
 
 pub kept_is_inside : {channel : Channel} → KeptChannel channel → channel_numbers_inside (numbers_of_channel channel) ≡ true
 unfolding channel_numbers_inside all_zero every
@@ -134,16 +134,16 @@ module _ (part : List ℕ) where
         let rise : (825032 ≤ at 2) × (at 2 ≤ 1357512) = in_between (test 1) in
         record {
           tc_low = natural_at_most tc.0;
-          tc-high = natural_at_most tc.1;
-          rise-low = natural_at_most rise.0;
-          rise-high = natural_at_most rise.1;
+          tc_high = natural_at_most tc.1;
+          rise_low = natural_at_most rise.0;
+          rise_high = natural_at_most rise.1;
           tnl = bounded (test 2);
-          d-low = natural_below d_between.0;
-          d-high = natural_at_most (omega (arith, d_between, slope_at_most));
-          slope-low = natural_not_negative (at 6);
-          slope-high = natural_at_most slope_at_most;
-          base-low = natural_not_negative (wide (at 7) (at 8));
-          base-high = natural_at_most base_at_most;
+          d_low = natural_below d_between.0;
+          d_high = natural_at_most (omega (arith, d_between, slope_at_most));
+          slope_low = natural_not_negative (at 6);
+          slope_high = natural_at_most slope_at_most;
+          base_low = natural_not_negative (wide (at 7) (at 8));
+          base_high = natural_at_most base_at_most;
           reach = natural_at_most d_between.1;
         }
 

@@ -73,20 +73,20 @@ nothing_in_range = record { long = refl; kept = λ any. absurd (false≢true any
 constants_are_small : {channel : Channel} → ConstantsRange channel.constants → SmallChannel channel
 constants_are_small range =
     let tc_low = at_most_trans (le_z_yes tt) range.tc_low in
-    let rise-low = at_most_trans (le_z_yes tt) range.rise-low in
-    let d-low = below_at_most range.d-low in
+    let rise_low = at_most_trans (le_z_yes tt) range.rise_low in
+    let d_low = below_at_most range.d_low in
     record {
-      tc = bounded_not_negative tc_low range.tc-high;
+      tc = bounded_not_negative tc_low range.tc_high;
       tc_low = tc_low;
-      rise = bounded_not_negative rise-low range.rise-high;
-      rise-low = rise-low;
+      rise = bounded_not_negative rise_low range.rise_high;
+      rise_low = rise_low;
       tnl = range.tnl;
-      d = bounded_not_negative d-low range.d-high;
-      d-low = d-low;
-      slope = bounded_not_negative range.slope-low range.slope-high;
-      slope-low = range.slope-low;
-      base = bounded_not_negative range.base-low range.base-high;
-      base-low = range.base-low;
+      d = bounded_not_negative d_low range.d_high;
+      d_low = d_low;
+      slope = bounded_not_negative range.slope_low range.slope_high;
+      slope_low = range.slope_low;
+      base = bounded_not_negative range.base_low range.base_high;
+      base_low = range.base_low;
     }
 
 none_is_small : {channel : Channel} → channel.constants ≡ no_constants → SmallChannel channel
@@ -97,14 +97,14 @@ none_is_small none =
       tc = natural_bounded (lit≤ tt);
       tc_low = zero;
       rise = natural_bounded (lit≤ tt);
-      rise-low = zero;
+      rise_low = zero;
       tnl = natural_bounded (lit≤ tt);
       d = natural_bounded (lit≤ tt);
-      d-low = zero;
+      d_low = zero;
       slope = natural_bounded (lit≤ tt);
-      slope-low = zero;
+      slope_low = zero;
       base = natural_bounded (lit≤ tt);
-      base-low = zero;
+      base_low = zero;
     }
 
 kept_is_small : {channel : Channel} → KeptChannel channel → SmallChannel channel
@@ -117,20 +117,20 @@ kept_is_small {channel} kept = by_flag (ℕ_discrete channel.flag 0)
 module _ {last : LastScan} (range : LastRange last) where
   pub range_is_small : (c : ℕ) → c < channels → SmallChannel (channel_in last c)
   unfolding nothing_kept
-  range_is_small c below = by-any last.any refl
+  range_is_small c below = by_any last.any refl
     where
-      by-any : (any : Bool) → last.any ≡ any → SmallChannel (channel_in last c)
-      by-any true some = kept_is_small (range.kept some c below)
-      by-any false none = none_is_small (ap (λ l. (channel_in l c).constants) (range.nothing none) ∙ ap (λ channel. channel.constants) (get_or-replicate channels c no_channel no_channel below))
+      by_any : (any : Bool) → last.any ≡ any → SmallChannel (channel_in last c)
+      by_any true some = kept_is_small (range.kept some c below)
+      by_any false none = none_is_small (ap (λ l. (channel_in l c).constants) (range.nothing none) ∙ ap (λ channel. channel.constants) (get_or-replicate channels c no_channel no_channel below))
 
   -- ---- read back
   pub last_read_back : last_by (numbers_of last) ≡ last
   unfolding last_by numbers_of
-  last_read_back = ap₂ (λ any all. record { any = any; channels = all }) (any-read-back last.any) channels_read_back
+  last_read_back = ap₂ (λ any all. record { any = any; channels = all }) (any_read_back last.any) channels_read_back
     where
-      any-read-back : (any : Bool) → eqb (cond any 1 0) 1 ≡ any
-      any-read-back true = refl
-      any-read-back false = refl
+      any_read_back : (any : Bool) → eqb (cond any 1 0) 1 ≡ any
+      any_read_back true = refl
+      any_read_back false = refl
 
       read : ℕ → Channel
       read = channel_at (numbers_of last)
@@ -155,11 +155,11 @@ module _ {last : LastScan} (range : LastRange last) where
       (λ c below. ap channel_numbers_inside (part_of_numbers last c below) ∙ kept_is_inside (range.kept some c below)))
 
   pub last_is_inside : (accepted : Bool) → (last.any ≡ true → accepted ≡ true) → last_inside accepted (numbers_of last) ≡ true
-  last_is_inside accepted where-accepted = by-any last.any refl
+  last_is_inside accepted where-accepted = by_any last.any refl
     where
-      by-any : (any : Bool) → last.any ≡ any → last_inside accepted (numbers_of last) ≡ true
-      by-any true some = ap (λ b. last_inside b (numbers_of last)) (where-accepted some) ∙ kept_numbers_inside some
-      by-any false none = ap (λ l. last_inside accepted (numbers_of l)) (range.nothing none) ∙ nothing_is_inside accepted
+      by_any : (any : Bool) → last.any ≡ any → last_inside accepted (numbers_of last) ≡ true
+      by_any true some = ap (λ b. last_inside b (numbers_of last)) (where-accepted some) ∙ kept_numbers_inside some
+      by_any false none = ap (λ l. last_inside accepted (numbers_of l)) (range.nothing none) ∙ nothing_is_inside accepted
 
 -- ---- numbers that pass the test
 

@@ -13,14 +13,14 @@ pub record SmallChannel (channel : Channel) : Type 0 where
   pub tc : Bounded channel.constants.tc (pos 43934)
   pub tc_low : pos 0 ≤ℤ channel.constants.tc
   pub rise : Bounded channel.constants.rise (pos 1357512)
-  pub rise-low : pos 0 ≤ℤ channel.constants.rise
+  pub rise_low : pos 0 ≤ℤ channel.constants.rise
   pub tnl : Bounded channel.constants.tnl (pos 8192)
   pub d : Bounded channel.constants.d (pos 51136960500)
-  pub d-low : pos 0 ≤ℤ channel.constants.d
+  pub d_low : pos 0 ≤ℤ channel.constants.d
   pub slope : Bounded channel.constants.slope (pos 780300)
-  pub slope-low : pos 0 ≤ℤ channel.constants.slope
+  pub slope_low : pos 0 ≤ℤ channel.constants.slope
   pub base : Bounded channel.constants.base (pos 51136960500)
-  pub base-low : pos 0 ≤ℤ channel.constants.base
+  pub base_low : pos 0 ≤ℤ channel.constants.base
 
 -- a channel has a flag up to 4; with flag 0 its constants are in their ranges, else it has none
 pub record KeptChannel (channel : Channel) : Type 0 where

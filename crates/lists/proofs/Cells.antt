@@ -43,8 +43,8 @@ module _ {A : Type 0} (f : ℕ → List A) (k : ℕ) (each : (i : ℕ) → lengt
       ∙ ap (λ (x : ℕ). filled f k x b) (sym (add-one n))
 
   -- a turn of such a loop: cell i is put right behind the first i
-  pub filled-by-put : (b : List A) (i : ℕ) {out v next : List A} → out ≡ filled f k i b → v ≡ f i → next ≡ put out (k * i) v → next ≡ filled f k (i + 1) b
-  filled-by-put b i {out} {v} is is-cell is-put =
+  pub filled_by_put : (b : List A) (i : ℕ) {out v next : List A} → out ≡ filled f k i b → v ≡ f i → next ≡ put out (k * i) v → next ≡ filled f k (i + 1) b
+  filled_by_put b i {out} {v} is is-cell is-put =
       is-put
       ∙ ap (λ (n : ℕ). put out n v) (mul_comm k i)
       ∙ ap₂ (λ (l w : List A). put l (i * k) w) is is-cell

@@ -15,7 +15,7 @@ use Rattle.calibrator.specs.declared.Refusal.{Refusal}
 use Rattle.calibrator.specs.declared.Refusal.TheVariants.{LengthWrong, FieldWrong, NumberNotAbove, BufferShort}
 use Rattle.calibrator.specs.Refusals.{Reply, refusal_number, reply_of, reply_number}
 use Rattle.calibrator.specs.Feeding.{Feed, Stepped, step, fresh_of, Leaves}
-use Rattle.lookup.specs.Lookup.{Found, refusedWith, count_behind}
+use Rattle.lookup.specs.Lookup.{Found, refused_with, count_behind}
 use Rattle.state.specs.State.{saved, state_size, last_in, calibrator_in, is_state}
 use Rattle.live.specs.Calls.{no_state, room_for, fresh_verdict, fresh_by, state_by, left_by, left_if, fed_state, CallLeaves, found_when, found_in, found_number, count_or}
 
@@ -32,11 +32,11 @@ module _ (table bias state : List ℕ) where
       record { answer_is = answers ∙ sym (ap number_of known); state_is = leaves ∙ sym (ap (λ (v : Verdict). fresh_by v table bias state) known) }
 
   pub refused_by_opening : {n : ℕ} → n ≡ number_of (both_opening table bias) → (n ≡ 0 → ⊥) → FreshLeaves table bias state n state
-  refused_by_opening = by-verdict (both_opening table bias) refl
+  refused_by_opening = by_verdict (both_opening table bias) refl
     where
-      by-verdict : (v : Verdict) → both_opening table bias ≡ v → {n : ℕ} → n ≡ number_of v → (n ≡ 0 → ⊥) → FreshLeaves table bias state n state
-      by-verdict passes known is some = absurd (some is)
-      by-verdict (fails k) known is some = fresh_by_lem (ap (λ (v : Verdict). and_then v (room_for state)) known) is refl
+      by_verdict : (v : Verdict) → both_opening table bias ≡ v → {n : ℕ} → n ≡ number_of v → (n ≡ 0 → ⊥) → FreshLeaves table bias state n state
+      by_verdict passes known is some = absurd (some is)
+      by_verdict (fails k) known is some = fresh_by_lem (ap (λ (v : Verdict). and_then v (room_for state)) known) is refl
 
   module _ (passed : both_opening table bias ≡ passes) where
     pub no_room : length state < state_size → FreshLeaves table bias state no_state state
@@ -56,7 +56,7 @@ module _ (state : List ℕ) where
     pub no_state_leaves : is_state state ≡ false → CallLeaves (fed_state state feed) no_state state feed.buffer
     unfolding fed_state
     no_state_leaves wrong =
-        subst (λ (b : Bool). CallLeaves (left_if b state feed) no_state state feed.buffer) (sym wrong) (record { answer_is = refl; state_is = refl; buffer-is = refl })
+        subst (λ (b : Bool). CallLeaves (left_if b state feed) no_state state feed.buffer) (sym wrong) (record { answer_is = refl; state_is = refl; buffer_is = refl })
 
     pub state_leaves : is_state state ≡ true → {n : ℕ} {left buffer : List ℕ} → CallLeaves (left_by state (step (calibrator_in state) feed)) n left buffer
         → CallLeaves (fed_state state feed) n left buffer
@@ -64,7 +64,7 @@ module _ (state : List ℕ) where
     state_leaves right {n} {left} {buffer} leaves = subst (λ (b : Bool). CallLeaves (left_if b state feed) n left buffer) (sym right) leaves
 
   module _ (channel wanted : ℕ) where
-    pub no_state_found : is_state state ≡ false → found_in state channel wanted ≡ refusedWith no_state
+    pub no_state_found : is_state state ≡ false → found_in state channel wanted ≡ refused_with no_state
     unfolding found_in
     no_state_found wrong = ap (λ (b : Bool). found_when b state channel wanted) wrong
 
@@ -101,12 +101,12 @@ module _ {stepped : Stepped} {calibrator : Calibrator} {answer : Answer} {buffer
     refused_leaves some = record {
       answer_is = numbered ∙ ap reply_number fed.reply_is;
       state_is = stays answer (λ none. some (numbered ∙ none)) stepped.calibrator ∙ by_reply;
-      buffer-is = fed.buffer-is;
+      buffer_is = fed.buffer_is;
     }
 
     pub accepted_leaves : n ≡ 0 → {left : List ℕ} → left ≡ saved state calibrator → CallLeaves (left_by state stepped) 0 left buffer
     accepted_leaves none is = record {
       answer_is = sym none ∙ numbered ∙ ap reply_number fed.reply_is;
       state_is = is ∙ ap (saved state) fed.calibrator_is ∙ moves answer (sym numbered ∙ none) stepped.calibrator ∙ by_reply;
-      buffer-is = fed.buffer-is;
+      buffer_is = fed.buffer_is;
     }

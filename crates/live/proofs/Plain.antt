@@ -11,7 +11,7 @@ use Rattle.table.specs.Settings.{Settings, settings_of}
 use Rattle.table.specs.Opening.{opening}
 use Rattle.bias.specs.declared.Bias.{Bias}
 use Rattle.bias.specs.Opening.{bias_opening}
-use Rattle.lookup.specs.Lookup.{foundCount, noCount, refusedWith, count_behind}
+use Rattle.lookup.specs.Lookup.{found_count, no_count, refused_with, count_behind}
 use Rattle.calibrator.specs.declared.Calibrator.{Calibrator}
 use Rattle.calibrator.specs.Refusals.{reply_number}
 use Rattle.calibrator.specs.Feeding.{fresh_of, step, calibrator_after, AllOfBytes}
@@ -26,11 +26,11 @@ use Rattle.live.specs.Runs.{Call, feeds_of_calls, state_after, first_state, Call
 
 pub call_leaves_says : {left : Left} {answer : ℕ} {state buffer : List ℕ} → CallLeaves left answer state buffer
     → (answer ≡ left.answer) × (state ≡ left.state) × (buffer ≡ left.buffer)
-call_leaves_says h = (h.answer_is, h.state_is, h.buffer-is)
+call_leaves_says h = (h.answer_is, h.state_is, h.buffer_is)
 
 -- ---- the numbers of answers that are no refusal of document 01
 
-pub numbers_of_answers : (no_state ≡ 254) × (found_number noCount ≡ 253) × ((n : ℕ) → found_number (foundCount n) ≡ 0) × ((n : ℕ) → found_number (refusedWith n) ≡ n)
+pub numbers_of_answers : (no_state ≡ 254) × (found_number no_count ≡ 253) × ((n : ℕ) → found_number (found_count n) ≡ 0) × ((n : ℕ) → found_number (refused_with n) ≡ n)
 numbers_of_answers = (refl, refl, λ n. refl, λ n. refl)
 
 -- ---- what is asked: every byte of every record that was fed is below 256

@@ -6,7 +6,7 @@ use Rattle.bias.specs.Opening.{both_opening}
 use Rattle.calibrator.specs.declared.Calibrator.{Calibrator}
 use Rattle.calibrator.specs.Refusals.{Reply, delivered, refused, reply_number}
 use Rattle.calibrator.specs.Feeding.{Feed, Stepped, fresh_of, step}
-use Rattle.lookup.specs.Lookup.{Found, foundCount, noCount, refusedWith, count_behind}
+use Rattle.lookup.specs.Lookup.{Found, found_count, no_count, refused_with, count_behind}
 use Rattle.state.specs.State.{state_size, saved, calibrator_in, is_state}
 
 -- no state, or none has room
@@ -52,24 +52,24 @@ fed_state state feed = left_if (is_state state) state feed
 pub record CallLeaves (left : Left) (answer : ℕ) (state buffer : List ℕ) : Type 0 where
   pub answer_is : answer ≡ left.answer
   pub state_is : state ≡ left.state
-  pub buffer-is : buffer ≡ left.buffer
+  pub buffer_is : buffer ≡ left.buffer
 
 -- ---- the count behind a temperature (request W5): 254 where the bytes are no state, then as the calibrator answers
 abbrev pub found_when : Bool → List ℕ → (channel wanted : ℕ) → Found
 found_when true state channel wanted = count_behind (calibrator_in state).last channel wanted
-found_when false state channel wanted = refusedWith no_state
+found_when false state channel wanted = refused_with no_state
 
 unfoldable pub found_in : List ℕ → (channel wanted : ℕ) → Found
 found_in state channel wanted = found_when (is_state state) state channel wanted
 
 -- 0 for a count, 253 where no count fits, or the number of the refusal
 abbrev pub found_number : Found → ℕ
-found_number (foundCount n) = 0
-found_number noCount = 253
-found_number (refusedWith n) = n
+found_number (found_count n) = 0
+found_number no_count = 253
+found_number (refused_with n) = n
 
 -- the count, or what stood there before where there is none
 abbrev pub count_or : Found → ℕ → ℕ
-count_or (foundCount n) before = n
-count_or noCount before = before
-count_or (refusedWith n) before = before
+count_or (found_count n) before = n
+count_or no_count before = before
+count_or (refused_with n) before = before

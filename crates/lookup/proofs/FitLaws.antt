@@ -16,28 +16,28 @@ use Rattle.scene.specs.Scene.{numerator}
 use Rattle.scene.specs.Temperature.{guard_fails}
 use Rattle.scene.specs.Ranges.{ConstantsRange}
 use Rattle.scene.specs.Steps.{placed}
-use Rattle.scene.specs.BeforeBias.{TOrMark, justT, flaggedMark, outsideMark, guardMark, before_bias}
+use Rattle.scene.specs.BeforeBias.{TOrMark, just_t, flagged_mark, outside_mark, guard_mark, before_bias}
 use Rattle.scene.proofs.Delivered.{temperature_of}
 use Rattle.scene.proofs.Ranges.{scene_range}
 use Rattle.scene.proofs.BiasRange.{temperature_low, temperature_high}
 use Rattle.scene.proofs.Placed.{NotOutside, just_not_outside, just_temperature, just_guarded, placed_below, placed_above, placed_between, placed_is_temperature, placed_rises_from, placed_rises_to}
-use Rattle.lookup.specs.Lookup.{foundCount, noCount, delivered_with}
+use Rattle.lookup.specs.Lookup.{found_count, no_count, delivered_with}
 use Rattle.lookup.specs.Steps.{count_with}
 use Rattle.lookup.proofs.SearchLaws.{not_both, none_fits, only_one_fits}
 
 -- ---- a scene fits where it is delivered with the wanted T
-pub fits_just : (wanted : ℕ) (scene : TOrMark) → delivered_with wanted scene ≡ true → scene ≡ justT (pos wanted)
-fits_just wanted (justT (pos n)) e = ap (λ (n : ℕ). justT (pos n)) (eqb-true n wanted e)
-fits_just wanted (justT (negsuc n)) e = not_both e refl
-fits_just wanted flaggedMark e = not_both e refl
-fits_just wanted outsideMark e = not_both e refl
-fits_just wanted guardMark e = not_both e refl
+pub fits_just : (wanted : ℕ) (scene : TOrMark) → delivered_with wanted scene ≡ true → scene ≡ just_t (pos wanted)
+fits_just wanted (just_t (pos n)) e = ap (λ (n : ℕ). just_t (pos n)) (eqb-true n wanted e)
+fits_just wanted (just_t (negsuc n)) e = not_both e refl
+fits_just wanted flagged_mark e = not_both e refl
+fits_just wanted outside_mark e = not_both e refl
+fits_just wanted guard_mark e = not_both e refl
 
-pub just_fits : (wanted : ℕ) {scene : TOrMark} → scene ≡ justT (pos wanted) → delivered_with wanted scene ≡ true
+pub just_fits : (wanted : ℕ) {scene : TOrMark} → scene ≡ just_t (pos wanted) → delivered_with wanted scene ≡ true
 just_fits wanted is = ap (delivered_with wanted) is ∙ eq-eqb wanted wanted refl
 
 module _ (k : Constants) (count wanted : ℕ) (fits : delivered_with wanted (before_bias k count) ≡ true) where
-  abbrev is_just : before_bias k count ≡ justT (pos wanted)
+  abbrev is_just : before_bias k count ≡ just_t (pos wanted)
   is_just = fits_just wanted (before_bias k count) fits
 
   pub fits_not_outside : NotOutside k count
@@ -58,7 +58,7 @@ module _ {k : Constants} (h : ConstantsRange k) (count wanted : ℕ) (small : wa
           let range = scene_range h (lt_z_false not_negative) (lt_z_false not_above_lem) in
           let low : pos 1 ≤ℤ temperature_of k count = at_most_trans (natural_at_most (omega arith)) (temperature_low range) in
           let high : temperature_of k count ≤ℤ pos 16777215 = at_most_trans (temperature_high range) (natural_at_most (omega arith)) in
-          let scene : before_bias k count ≡ justT (pos wanted) = rw (not_negative, not_above_lem, at_most_fails low, at_most_fails high) (ap justT (placed_between k count not_negative not_above_lem ∙ is)) in
+          let scene : before_bias k count ≡ just_t (pos wanted) = rw (not_negative, not_above_lem, at_most_fails low, at_most_fails high) (ap just_t (placed_between k count not_negative not_above_lem ∙ is)) in
           just_fits wanted scene
 
 -- ---- on which side of a middle count the one that fits is
@@ -98,10 +98,10 @@ module _ {k : Constants} (h : ConstantsRange k) (wanted c : ℕ) (only : (count 
   abbrev fit : ℕ → Bool
   fit count = delivered_with wanted (before_bias k count)
 
-  pub candidate_found : c ≤ 65535 → wanted ≤ 4294967295 → placed k c ≡ pos wanted → foundCount c ≡ count_with k wanted
+  pub candidate_found : c ≤ 65535 → wanted ≤ 4294967295 → placed k c ≡ pos wanted → found_count c ≡ count_with k wanted
   candidate_found inside small is = sym (only_one_fits fit 65536 c (omega arith) (placed_fits h c wanted small is) (λ count below. only count (omega arith)))
 
-  pub candidate_fails : (placed k c ≡ pos wanted → ⊥) → noCount ≡ count_with k wanted
+  pub candidate_fails : (placed k c ≡ pos wanted → ⊥) → no_count ≡ count_with k wanted
   candidate_fails other = sym (none_fits fit 65536 (λ count below. by_test count (omega arith) (fit count) refl))
     where
       by_test : (count : ℕ) → count ≤ 65535 → (b : Bool) → fit count ≡ b → b ≡ false
@@ -117,7 +117,7 @@ guard_refuses wanted (inr above) = rw (below_test (natural_below above)) (or_tru
     or_true true = refl
     or_true false = refl
 
-pub none_beyond_guard : (k : Constants) (wanted : ℕ) → (wanted ≡ 0) ⊎ (16777215 < wanted) → count_with k wanted ≡ noCount
+pub none_beyond_guard : (k : Constants) (wanted : ℕ) → (wanted ≡ 0) ⊎ (16777215 < wanted) → count_with k wanted ≡ no_count
 none_beyond_guard k wanted beyond = none_fits (λ count. delivered_with wanted (before_bias k count)) 65536 (λ count below. by_test count (delivered_with wanted (before_bias k count)) refl)
   where
     by_test : (count : ℕ) (b : Bool) → delivered_with wanted (before_bias k count) ≡ b → b ≡ false

@@ -4,7 +4,7 @@ use Rattle.std.specs.Prelude.{ℕ, zero, suc, ◌-◌, [], ◌∷◌, Bool, fals
 use Rattle.lists.specs.Tests.{Verdict, passes, fails, ◌when◌, first_that_applies}
 use Rattle.instrument.specs.Instrument.{channels}
 use Rattle.thermometer.specs.Reading.{from_to}
-use Rattle.scene.specs.BeforeBias.{TOrMark, justT, flaggedMark, outsideMark, guardMark, before_bias}
+use Rattle.scene.specs.BeforeBias.{TOrMark, just_t, flagged_mark, outside_mark, guard_mark, before_bias}
 use Rattle.lastscan.specs.declared.LastScan.{LastScan}
 use Rattle.lastscan.specs.LastScan.{channel_in}
 use Rattle.lookup.specs.declared.Behind.{Behind}
@@ -12,16 +12,16 @@ use Rattle.lookup.specs.declared.Behind.TheVariants.{Count, NoCount, ChannelOuts
 
 -- a count, or none, or refused with a number
 pub data Found : Type 0 where
-  foundCount : ℕ → Found
-  noCount : Found
-  refusedWith : ℕ → Found
+  found_count : ℕ → Found
+  no_count : Found
+  refused_with : ℕ → Found
 
 -- what each case of the code's answer stands for, and the number of each refusal
 abbrev pub found_by : Behind → Found
-found_by (Count n) = foundCount n
-found_by NoCount = noCount
-found_by ChannelOutside = refusedWith 11
-found_by NotCalibrated = refusedWith 12
+found_by (Count n) = found_count n
+found_by NoCount = no_count
+found_by ChannelOutside = refused_with 11
+found_by NotCalibrated = refused_with 12
 
 -- 11 where the channel isn't 1 to 22; then 12 where no scan has been accepted or the channel's flag there isn't 0
 abbrev pub lookup_verdict : (channel : ℕ) (accepted : Bool) (flag : ℕ) → Verdict
@@ -30,21 +30,21 @@ lookup_verdict channel accepted flag =
 
 -- a scene before scan bias is delivered with just this T
 abbrev pub delivered_with : (wanted : ℕ) → TOrMark → Bool
-delivered_with wanted (justT (pos t)) = eqb t wanted
-delivered_with wanted (justT (negsuc t)) = false
-delivered_with wanted flaggedMark = false
-delivered_with wanted outsideMark = false
-delivered_with wanted guardMark = false
+delivered_with wanted (just_t (pos t)) = eqb t wanted
+delivered_with wanted (just_t (negsuc t)) = false
+delivered_with wanted flagged_mark = false
+delivered_with wanted outside_mark = false
+delivered_with wanted guard_mark = false
 
 -- of the counts n - 1, n - 2, .. 0 the first that fits
 unfoldable pub count_that : (fits : ℕ → Bool) → ℕ → Found
-count_that fits zero = noCount
-count_that fits (suc n) = cond (fits n) (foundCount n) (count_that fits n)
+count_that fits zero = no_count
+count_that fits (suc n) = cond (fits n) (found_count n) (count_that fits n)
 
 -- the counts are 0 to 65,535
 abbrev pub found_if : Verdict → (scene : ℕ → TOrMark) → (wanted : ℕ) → Found
 found_if passes scene wanted = count_that (λ count. delivered_with wanted (scene count)) 65536
-found_if (fails n) scene wanted = refusedWith n
+found_if (fails n) scene wanted = refused_with n
 
 -- by what is kept of the last accepted scan; channels are counted from 1
 abbrev pub count_behind : LastScan → (channel wanted : ℕ) → Found

@@ -49,10 +49,10 @@ module _ (deliver : ℤ → ℤ) (channel : Channel) (count : ℕ) where
   scene_in_not_nan = scene_in_cases (λ s. T (not (is_nan (value s)))) flagged_not_nan (λ zero_flag. scene_not_nan deliver channel.constants count)
 
   pub temperature_in_units : InUnitsBy deliver channel → (x : Float) → scene_in deliver channel count ≡ Kelvin x → InUnits x
-  temperature_in_units units x = scene_in_cases (λ s. s ≡ Kelvin x → InUnits x) flagged-is-none scene
+  temperature_in_units units x = scene_in_cases (λ s. s ≡ Kelvin x → InUnits x) flagged_is_none scene
     where
-      flagged-is-none : Flagged ≡ Kelvin x → InUnits x
-      flagged-is-none e = let z : ◌≡◌ {A = ℕ} 0 1 = cc in absurd (omega arith)
+      flagged_is_none : Flagged ≡ Kelvin x → InUnits x
+      flagged_is_none e = let z : ◌≡◌ {A = ℕ} 0 1 = cc in absurd (omega arith)
 
       scene : channel.flag ≡ 0 → scene_of deliver channel.constants count ≡ Kelvin x → InUnits x
       scene zero_flag e =
@@ -69,7 +69,7 @@ module _ (deliver : ℤ → ℤ) (channel : Channel) (count : ℕ) where
 
 -- ---- by an accepted bias file
 pub e_bounded : {part : List ℕ} {i : ℕ} → PairRange part i → Bounded (e_in part i) (pos 32768)
-e_bounded h = record { low = h.e-low; high = at_most_trans h.e-high (natural_at_most (omega arith)) }
+e_bounded h = record { low = h.e_low; high = at_most_trans h.e_high (natural_at_most (omega arith)) }
 
 -- of a scene that is not outside, in a channel whose constants are in their ranges
 pub units_by_bias : {part : List ℕ} {i : ℕ} → PairRange part i → {tc rise tnl d n : ℤ} → SceneRange tc rise tnl d n → WithinGuard (with_bias part i (temperature tc rise tnl d n))

@@ -117,7 +117,7 @@ module _ (before : Float → Float → Bool) where
   -- what an end needs of an order, on temperatures in units
   record Ordered : Type 0 where
     not_itself : (x : Float) → InUnits x → before x x ≡ false
-    not-past : (x y z : Float) → InUnits x → InUnits y → InUnits z → before x z ≡ false → before y z ≡ true → before x y ≡ false
+    not_past : (x y z : Float) → InUnits x → InUnits y → InUnits z → before x z ≡ false → before y z ≡ true → before x y ≡ false
 
 module _ (scenes : ℕ → Scene) (units : (i : ℕ) (x : Float) → scenes i ≡ Kelvin x → InUnits x) (before : Float → Float → Bool) (ordered : Ordered before) where
   -- none before x among the first n scenes, and none at scene n: none among the first n + 1
@@ -144,7 +144,7 @@ module _ (scenes : ℕ → Scene) (units : (i : ℕ) (x : Float) → scenes i �
     moved_end : (z : Float) → IsEnd before scenes n z → before x z ≡ true → IsEnd before scenes (suc n) x
     moved_end z end moves =
         first_end
-        (λ i y below also. ordered.not-past y x z (units i y also) (units n x is) (units end.place z end.there) (end.none_before i y below also) moves)
+        (λ i y below also. ordered.not_past y x z (units i y also) (units n x is) (units end.place z end.there) (end.none_before i y below also) moves)
 
   kept_end : (n : ℕ) (z : Float) → IsEnd before scenes n z → ((y : Float) → scenes n ≡ Kelvin y → before y z ≡ false) → IsEnd before scenes (suc n) z
   kept_end n z end last = record {
@@ -197,7 +197,7 @@ lt_of_units x y p q = ap₂ lt p.same q.same ∙ kelvin_order p.units q.units p.
 upwards : Ordered lt
 upwards = record {
   not_itself = λ x p. lt_of_units x x p p ∙ le-ltb p.units p.units (omega arith);
-  not-past = λ x y z p q r past moves.
+  not_past = λ x y z p q r past moves.
       let a = ltb-false p.units r.units (sym (lt_of_units x z p r) ∙ past) in
       let b = ltb-true q.units r.units (sym (lt_of_units y z q r) ∙ moves) in
       lt_of_units x y p q ∙ le-ltb p.units q.units (omega arith);
@@ -209,7 +209,7 @@ above x y = lt y x
 downwards : Ordered above
 downwards = record {
   not_itself = upwards.not_itself;
-  not-past = λ x y z p q r past moves.
+  not_past = λ x y z p q r past moves.
       let a = ltb-false r.units p.units (sym (lt_of_units z x r p) ∙ past) in
       let b = ltb-true r.units q.units (sym (lt_of_units z y r q) ∙ moves) in
       lt_of_units y x q p ∙ le-ltb q.units p.units (omega arith);

@@ -27,7 +27,7 @@ use Rattle.programs.specs.declared.Next.{Next}
 use Rattle.programs.specs.declared.Next.TheVariants.{More, Ended, Stopped}
 use Rattle.programs.specs.declared.Turned.{Turned}
 use Rattle.programs.specs.Streams.{standard_output, standard_error}
-use Rattle.programs.specs.Steps.{line_of, written_product, turned_of, Together, of_record, of-refusal, Due, line_due, product-due, stop-due}
+use Rattle.programs.specs.Steps.{line_of, written_product, turned_of, Together, of_record, of_refusal, Due, line_due, product_due, stop_due}
 use Rattle.programs.specs.Runs.{ReadTo, WholeFeed, Ran, Unfed, UnderBias, UnderTable}
 use Rattle.programs.proofs.StepLaws.{written_size}
 use Rattle.programs.proofs.RunLaws.{after_appended}
@@ -64,16 +64,16 @@ pub together_says : {program : Program} {line product : List ℕ} → Together p
     ⊎ ((number : ℕ) × (1 ≤ number) × (number ≤ 3) × (line ≡ refused_line number) × (product ≡ []))
 unfolding opening_line
 together_says (of_record c scan sound some line-is product_is) = inl (c, scan, sound, some, line-is, product_is)
-together_says (of-refusal answer refuses line-is product_is) =
-    let bounds = refusal_numbers answer refuses.fails-with in
-    inr (refuses.number, bounds.0, bounds.1, line-is ∙ ap opening_line refuses.fails-with, product_is)
+together_says (of_refusal answer refuses line-is product_is) =
+    let bounds = refusal_numbers answer refuses.fails_with in
+    inr (refuses.number, bounds.0, bounds.1, line-is ∙ ap opening_line refuses.fails_with, product_is)
 
 -- `listing`: a line, and no product
 pub listing_writes_a_line : {line product : List ℕ} → Together Listing line product → (0 < length line) × (product ≡ [])
 unfolding line_of written_product listed_line
 listing_writes_a_line (of_record c scan sound some line-is product_is) =
     (rw line-is (reply_line_has_bytes (record_fed c scan).outcome.reply (record_fed c scan).outcome.buffer), product_is)
-listing_writes_a_line (of-refusal answer refuses line-is product_is) = (rw line-is (opening_line_has_bytes (verdict_of answer) refuses.fails-with), product_is)
+listing_writes_a_line (of_refusal answer refuses line-is product_is) = (rw line-is (opening_line_has_bytes (verdict_of answer) refuses.fails_with), product_is)
 
 one_by_reply : (reply : Reply) (line product : List ℕ) → line ≡ error_line reply → length product ≡ output_size reply
     → ((line ≡ []) × (length product ≡ 8706)) ⊎ ((0 < length line) × (length product ≡ 0))
@@ -86,21 +86,21 @@ pub calibrate_writes_one : {line product : List ℕ} → Together Calibrate line
 unfolding line_of calibrated_line
 calibrate_writes_one {line} {product} (of_record c scan sound some line-is product_is) =
     one_by_reply (record_fed c scan).outcome.reply line product line-is (ap length product_is ∙ written_size c scan)
-calibrate_writes_one (of-refusal answer refuses line-is product_is) = inr (rw line-is (opening_line_has_bytes (verdict_of answer) refuses.fails-with), ap length product_is)
+calibrate_writes_one (of_refusal answer refuses line-is product_is) = inr (rw line-is (opening_line_has_bytes (verdict_of answer) refuses.fails_with), ap length product_is)
 
 -- ---- what a stream gets
 
 -- the standard error of `listing`: nothing but its last line
 pub listing_errors : {bytes : List ℕ} → Due Listing standard_error bytes → (stop : Stop) × (bytes ≡ stop_line stop)
 listing_errors (line_due product together to_is) = absurd (let z : ◌≡◌ {A = ℕ} 2 1 = cc in omega arith)
-listing_errors (product-due line together to_is) = absurd (let z : ◌≡◌ {A = ℕ} 2 1 = cc in omega arith)
-listing_errors (stop-due stop bytes-is to_is) = (stop, bytes-is)
+listing_errors (product_due line together to_is) = absurd (let z : ◌≡◌ {A = ℕ} 2 1 = cc in omega arith)
+listing_errors (stop_due stop bytes-is to_is) = (stop, bytes-is)
 
 -- the standard output of `calibrate`: nothing but whole products
 pub calibrate_output : {bytes : List ℕ} → Due Calibrate standard_output bytes → (length bytes ≡ 0) ⊎ (length bytes ≡ 8706)
 calibrate_output (line_due product together to_is) = absurd (let z : ◌≡◌ {A = ℕ} 1 2 = cc in omega arith)
-calibrate_output (product-due line together to_is) = ⊎_elim (λ whole. inr whole.1) (λ none. inl none.1) (calibrate_writes_one together)
-calibrate_output (stop-due stop bytes-is to_is) = absurd (let z : ◌≡◌ {A = ℕ} 1 2 = cc in omega arith)
+calibrate_output (product_due line together to_is) = ⊎_elim (λ whole. inr whole.1) (λ none. inl none.1) (calibrate_writes_one together)
+calibrate_output (stop_due stop bytes-is to_is) = absurd (let z : ◌≡◌ {A = ℕ} 1 2 = cc in omega arith)
 
 -- ---- which records a run has fed
 
@@ -108,15 +108,15 @@ calibrate_output (stop-due stop bytes-is to_is) = absurd (let z : ◌≡◌ {A =
 pub record FedRecord (feed : Feed) : Type 0 where
   pub some : 0 < length feed.scan
   pub most : length feed.scan ≤ 4648
-  pub buffer-is : feed.buffer ≡ empty_product
+  pub buffer_is : feed.buffer ≡ empty_product
 
 pub record RanOver (first : Calibrator) (feeds : List Feed) (t : Turned) : Type 0 where
   pub fed : All FedRecord feeds
   pub calibrator_is : t.calibrator ≡ calibrator_after first feeds
-  pub all-turns : t.next ≡ More → length feeds ≡ 18446744073709551615
+  pub all_turns : t.next ≡ More → length feeds ≡ 18446744073709551615
 
 whole_is_fed : (feed : Feed) → WholeFeed feed → FedRecord feed
-whole_is_fed feed whole = record { some = omega (arith, whole.whole); most = omega (arith, whole.whole); buffer-is = whole.buffer-is }
+whole_is_fed feed whole = record { some = omega (arith, whole.whole); most = omega (arith, whole.whole); buffer_is = whole.buffer_is }
 
 -- how many bytes were read: a whole record, or a shorter rest
 pub read_says : (next : Next) {size : ℕ} → ReadTo size next
@@ -135,14 +135,14 @@ last_fed : (c : Calibrator) (scan : List ℕ) (next : Next) (complete : Bool) �
 unfolding turned_of calibrator_after
 last_fed c [] next complete most = ([], all_none FedRecord, refl)
 last_fed c (byte ∷ more) next complete most =
-    (record { scan = byte ∷ more; buffer = empty_product } ∷ [], all_one FedRecord (record { some = omega arith; most = most; buffer-is = refl }), refl)
+    (record { scan = byte ∷ more; buffer = empty_product } ∷ [], all_one FedRecord (record { some = omega arith; most = most; buffer_is = refl }), refl)
 
 pub ran_says : {first : Calibrator} {t : Turned} → Ran first t → (feeds : List Feed) × RanOver first feeds t
 ran_says {first} {t} ran = ⊎_elim
     (λ last.
     let turn = last.turn in
     let scan = take turn.size last.buffer in
-    let is = turn.turn.turned-is in
+    let is = turn.turn.turned_is in
     let most = read_at_most turn.next turn.read in
     let more = last_fed ran.before scan turn.next turn.turn.complete (simp length-take (omega arith)) in (
       ran.reached.feeds ++ more.0,
@@ -152,7 +152,7 @@ ran_says {first} {t} ran = ⊎_elim
             ap (λ (u : Turned). u.calibrator) is ∙ more.2
             ∙ ap (λ (c : Calibrator). calibrator_after c more.0) ran.reached.calibrator_is
             ∙ sym (after_appended first ran.reached.feeds more.0);
-        all-turns = λ goes_on. absurd (last.ends goes_on);
+        all_turns = λ goes_on. absurd (last.ends goes_on);
       },
     ))
     (λ all. (
@@ -160,7 +160,7 @@ ran_says {first} {t} ran = ⊎_elim
       record {
         fed = all_weaker WholeFeed whole_is_fed ran.reached.feeds ran.reached.whole;
         calibrator_is = ap (λ (u : Turned). u.calibrator) all.1 ∙ ran.reached.calibrator_is;
-        all-turns = λ goes_on. ran.reached.many ∙ all.0;
+        all_turns = λ goes_on. ran.reached.many ∙ all.0;
       },
     ))
     ran.last

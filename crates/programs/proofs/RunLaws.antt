@@ -47,7 +47,7 @@ fed_whole c (byte ∷ rest) next false read more = absurd (stopped_is_not_more r
 
 pub fed_whole_when_more : {c : Calibrator} {buffer : List ℕ} {t : Turned} (turn : TurnIn c buffer t) → t.next ≡ More → FedWhole c (take turn.size buffer) t
 fed_whole_when_more {c} {buffer} {t} turn more =
-    let is = turn.turn.turned-is in
+    let is = turn.turn.turned_is in
     let long = length-take-le turn.size buffer turn.fits in
     let read : ReadTo (length (take turn.size buffer)) turn.next = rw long turn.read in
     rw is (fed_whole c (take turn.size buffer) turn.next turn.turn.complete read (ap (λ (u : Turned). u.next) (sym is) ∙ more))
@@ -71,7 +71,7 @@ reached_one_more {first} {c} {n} {m} {buffer} {t} reached turn more one_more =
     let feed : Feed = record { scan = take turn.size buffer; buffer = empty_product } in record {
       feeds = reached.feeds ++ (feed ∷ []);
       many = simp length-append (omega (arith, reached.many, one_more));
-      whole = all_appended WholeFeed reached.feeds (feed ∷ []) reached.whole (all_one WholeFeed (record { whole = fed.whole; buffer-is = refl }));
+      whole = all_appended WholeFeed reached.feeds (feed ∷ []) reached.whole (all_one WholeFeed (record { whole = fed.whole; buffer_is = refl }));
       calibrator_is =
           fed.calibrator_is
           ∙ ap (λ (d : Calibrator). (record_fed d feed.scan).calibrator) reached.calibrator_is

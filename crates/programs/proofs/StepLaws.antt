@@ -114,6 +114,6 @@ module _ (c : Calibrator) (next : Next) (complete : Bool) where
 -- ---- an opening that is no acceptance, by the number of its variant
 pub refuses_by_variant : (answer : Opening) → OneOf (1 ∷ 2 ∷ 3 ∷ []) (tag_of the_type answer) → Refuses answer
 refuses_by_variant Accepted variant = absurd (⊎_elim (λ one. omega (arith, one)) (⊎_elim (λ two. omega (arith, two)) (λ three. omega (arith, three))) variant)
-refuses_by_variant LengthWrong variant = record { number = 1; fails-with = refl }
-refuses_by_variant FieldWrong variant = record { number = 2; fails-with = refl }
-refuses_by_variant ValueOutside variant = record { number = 3; fails-with = refl }
+refuses_by_variant LengthWrong variant = record { number = 1; fails_with = refl }
+refuses_by_variant FieldWrong variant = record { number = 2; fails_with = refl }
+refuses_by_variant ValueOutside variant = record { number = 3; fails_with = refl }

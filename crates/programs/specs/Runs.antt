@@ -27,7 +27,7 @@ ReadTo size (Stopped stop) = (size < record_size) × (stop ≡ InputUnread)
 -- the turn of calibrator c with bytes that were read, whether standard output took all or not
 pub record TurnOf (c : Calibrator) (scan : List ℕ) (next : Next) (t : Turned) : Type 0 where
   pub complete : Bool
-  pub turned-is : t ≡ turned_of c scan next complete
+  pub turned_is : t ≡ turned_of c scan next complete
 
 -- the same with what was read into the front of a buffer
 pub record TurnIn (c : Calibrator) (buffer : List ℕ) (t : Turned) : Type 0 where
@@ -42,7 +42,7 @@ pub record TurnIn (c : Calibrator) (buffer : List ℕ) (t : Turned) : Type 0 whe
 -- a whole record, with the program's own buffer
 pub record WholeFeed (feed : Feed) : Type 0 where
   pub whole : length feed.scan ≡ record_size
-  pub buffer-is : feed.buffer ≡ empty_product
+  pub buffer_is : feed.buffer ≡ empty_product
 
 -- how many turns a run has at most: no stream has as many records
 abbrev pub most_turns : ℕ

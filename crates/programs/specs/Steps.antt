@@ -65,7 +65,7 @@ turned_of c (byte ∷ more) next complete = record { next = next_after next comp
 -- an opening that is a refusal, with its number
 pub record Refuses (answer : Opening) : Type 0 where
   pub number : ℕ
-  pub fails-with : verdict_of answer ≡ fails number
+  pub fails_with : verdict_of answer ≡ fails number
 
 -- a line and a product that belong together
 pub data Together (program : Program) (line product : List ℕ) : Type 0 where
@@ -73,10 +73,10 @@ pub data Together (program : Program) (line product : List ℕ) : Type 0 where
   of_record : (c : Calibrator) (scan : List ℕ) → Sound c → 0 < length scan → line ≡ line_of program c scan → product ≡ written_product program c scan
       → Together program line product
   -- of a refused table or bias file, which has no product
-  of-refusal : (answer : Opening) → Refuses answer → line ≡ opening_line (verdict_of answer) → product ≡ [] → Together program line product
+  of_refusal : (answer : Opening) → Refuses answer → line ≡ opening_line (verdict_of answer) → product ≡ [] → Together program line product
 
 -- the bytes that a program writes to a stream
 pub data Due (program : Program) (to : ℤ) (bytes : List ℕ) : Type 0 where
   line_due : (product : List ℕ) → Together program bytes product → to ≡ lines_to program → Due program to bytes
-  product-due : (line : List ℕ) → Together program line bytes → to ≡ standard_output → Due program to bytes
-  stop-due : (stop : Stop) → bytes ≡ stop_line stop → to ≡ standard_error → Due program to bytes
+  product_due : (line : List ℕ) → Together program line bytes → to ≡ standard_output → Due program to bytes
+  stop_due : (stop : Stop) → bytes ≡ stop_line stop → to ≡ standard_error → Due program to bytes

@@ -26,7 +26,7 @@ use Rattle.scene.specs.declared.Constants.{Constants}
 use Rattle.scene.specs.declared.Channel.{Channel}
 use Rattle.scene.specs.Ranges.{ConstantsRange}
 use Rattle.scene.specs.Temperature.{temperature}
-use Rattle.scene.specs.BeforeBias.{TOrMark, justT, flaggedMark, by_tests, before_bias}
+use Rattle.scene.specs.BeforeBias.{TOrMark, just_t, flagged_mark, by_tests, before_bias}
 use Rattle.scene.proofs.Delivered.{N_is_numerator}
 use Rattle.scene.proofs.Rises.{temperature_rises_with_count}
 use Rattle.scene.proofs.Placed.{just_not_outside, just_temperature}
@@ -34,7 +34,7 @@ use Rattle.product.specs.Scenes.{no_channel}
 use Rattle.lastscan.specs.declared.LastScan.{LastScan}
 use Rattle.lastscan.specs.LastScan.{nothing_kept, kept_of, channel_in}
 use Rattle.lastscan.specs.Ranges.{LastRange}
-use Rattle.lookup.specs.Lookup.{Found, foundCount, delivered_with, lookup_verdict, found_if, count_that, count_behind}
+use Rattle.lookup.specs.Lookup.{Found, found_count, delivered_with, lookup_verdict, found_if, count_that, count_behind}
 use Rattle.lookup.proofs.SearchLaws.{not_both, none_found, found_fits, only_one_fits}
 use Rattle.lookup.proofs.FitLaws.{fits_just, just_fits, only_count_fits}
 use Rattle.lookup.proofs.AnswerLaws.{found_outside, found_not_calibrated, found_calibrated}
@@ -44,7 +44,7 @@ use Rattle.calibrator.proofs.SoundLaws.{fresh_is_sound, sound_after_step}
 use Rattle.promise.specs.Roll.{Roll, verdict_at, joined_by, joined}
 use Rattle.promise.specs.Restart.{rolled_by}
 use Rattle.promise.specs.Outcomes.{fed_moment}
-use Rattle.promise.specs.Moments.{Moment, means_at, shelfAt, tnl_at, d_at, channels_at}
+use Rattle.promise.specs.Moments.{Moment, means_at, shelf_at, tnl_at, d_at, channels_at}
 use Rattle.promise.specs.Promise.{Alike}
 use Rattle.promise.specs.SameScenes.{flag_at, scene_before_bias, FedChannel, settings_of_fed, moment_of_fed, fed_flag, fed_scene}
 use Rattle.promise.specs.CountBehind.{answer_of, answer_of_roll, CountsBehind, SameAfterRestart, FedBytes, HigherCountHigherT, AnswerSays, AnswersSay}
@@ -55,7 +55,7 @@ use Rattle.promise.proofs.AlikeLaws.{SameRolls, same_rolls}
 -- ---- a channel of a moment
 module _ (s : Settings) (m : Moment) (c : ℕ) where
   abbrev constants_at : Constants
-  constants_at = constants_of (means_at s m c) (s.channel c) (shelfAt s m c)
+  constants_at = constants_of (means_at s m c) (s.channel c) (shelf_at s m c)
 
   -- with flag 0 its scenes are those of its constants
   scene_of_constants : flag_at s m c ≡ 0 → (count : ℕ) → before_bias constants_at count ≡ scene_before_bias s m c (pos count)
@@ -67,8 +67,8 @@ module _ (s : Settings) (m : Moment) (c : ℕ) where
       (ap (λ n. by_tests n (d_at s m c) (temperature (Tc channel) (Tw sums channel -ℤ Tc channel) (tnl_at s m c) (d_at s m c) n)) (sym (N_is_numerator constants_at (pos sums.Ww) (pos sums.Wc) (pos sums.Ac) count refl refl)))
 
   module _ (below : c < channels) where
-    kept_state : channel_in (kept_of (channels_at s m)) c ≡ channel_state_of s c (shelfAt s m c) (means_at s m c)
-    kept_state = get_d_tabulate (λ c. channel_state_of s c (shelfAt s m c) (means_at s m c)) channels c no_channel below
+    kept_state : channel_in (kept_of (channels_at s m)) c ≡ channel_state_of s c (shelf_at s m c) (means_at s m c)
+    kept_state = get_d_tabulate (λ c. channel_state_of s c (shelf_at s m c) (means_at s m c)) channels c no_channel below
 
     kept_flag : (channel_in (kept_of (channels_at s m)) c).flag ≡ flag_at s m c
     unfolding channel_state_of
@@ -88,10 +88,10 @@ module _ (s : Settings) (channel wanted : ℕ) where
 
   nothing_answers : (inside : Bool) → from_to 1 channels channel ≡ inside → count_behind nothing_kept channel wanted ≡ answer_of_roll s [] channel wanted
   unfolding nothing_kept
-  nothing_answers false e = same_when_outside nothing_kept false 0 (λ count. flaggedMark) e
+  nothing_answers false e = same_when_outside nothing_kept false 0 (λ count. flagged_mark) e
   nothing_answers true e =
       let kept = channel_in nothing_kept (channel - 1) in
-      found_not_calibrated channel false kept.flag (before_bias kept.constants) wanted e refl ∙ sym (found_not_calibrated channel false 0 (λ count. flaggedMark) wanted e refl)
+      found_not_calibrated channel false kept.flag (before_bias kept.constants) wanted e refl ∙ sym (found_not_calibrated channel false 0 (λ count. flagged_mark) wanted e refl)
 
   module _ (scan : List ℕ) (roll : Roll) where
     abbrev m : Moment
@@ -173,29 +173,29 @@ module _ (f : FedChannel) where
   handed_back bias = (step (calibrator_after (fresh_of of_table bias) f.before) f.feed).calibrator
 
   kept_of_fed : (bias : Bias) → (handed_back bias).last ≡ kept_of (channels_at s (moment_of_fed f))
-  kept_of_fed bias = kept_by_lem of_table bias f.before f.feed ∙ ap (λ (v : Verdict). last_of s (joined_by v (rolled_by [] f.before) f.feed)) f.feedAccepted
+  kept_of_fed bias = kept_by_lem of_table bias f.before f.feed ∙ ap (λ (v : Verdict). last_of s (joined_by v (rolled_by [] f.before) f.feed)) f.feed_accepted
 
   module _ (bytes : FedBytes f) (zero_flag : fed_flag f ≡ 0) where
     constants_fed : ConstantsRange fed_constants
     constants_fed =
         let bias : Bias = record { bytes = zero_bias } in
-        let sound = sound_after_step (sound_after f.before bytes.0 (fresh_is_sound f.tableAccepted zero_bias_accepted)) f.feed bytes.1 in
+        let sound = sound_after_step (sound_after f.before bytes.0 (fresh_is_sound f.table_accepted zero_bias_accepted)) f.feed bytes.1 in
         let range : LastRange (kept_of (channels_at s (moment_of_fed f))) = subst LastRange (kept_of_fed bias) sound.last in
-        subst ConstantsRange (kept_constants s (moment_of_fed f) f.channel f.isChannel zero_flag)
-        ((range.kept refl f.channel f.isChannel).constants (kept_flag s (moment_of_fed f) f.channel f.isChannel ∙ zero_flag))
+        subst ConstantsRange (kept_constants s (moment_of_fed f) f.channel f.is_channel zero_flag)
+        ((range.kept refl f.channel f.is_channel).constants (kept_flag s (moment_of_fed f) f.channel f.is_channel ∙ zero_flag))
 
   -- a delivered scene has flag 0
-  just_by_flag : (unflagged : Bool) (x : TOrMark) (t : ℤ) → cond unflagged x flaggedMark ≡ justT t → unflagged ≡ true
+  just_by_flag : (unflagged : Bool) (x : TOrMark) (t : ℤ) → cond unflagged x flagged_mark ≡ just_t t → unflagged ≡ true
   just_by_flag true x t e = refl
   just_by_flag false x t e = let clash : ◌≡◌ {A = ℕ} 0 1 = cc in absurd (omega arith)
 
-  just_has_flag_zero : (count : ℕ) (t : ℤ) → fed_scene f (pos count) ≡ justT t → fed_flag f ≡ 0
+  just_has_flag_zero : (count : ℕ) (t : ℤ) → fed_scene f (pos count) ≡ just_t t → fed_flag f ≡ 0
   just_has_flag_zero count t e = eqb-true (fed_flag f) 0 (just_by_flag (eqb (fed_flag f) 0) _ t e)
 
-  just_of_constants : (count : ℕ) (t : ℤ) → fed_scene f (pos count) ≡ justT t → before_bias fed_constants count ≡ justT t
+  just_of_constants : (count : ℕ) (t : ℤ) → fed_scene f (pos count) ≡ just_t t → before_bias fed_constants count ≡ just_t t
   just_of_constants count t e = scene_of_constants s (moment_of_fed f) f.channel (just_has_flag_zero count t e) count ∙ e
 
-t_rises : (f : FedChannel) → FedBytes f → (count higher : ℕ) (t u : ℤ) → count < higher → fed_scene f (pos count) ≡ justT t → fed_scene f (pos higher) ≡ justT u → t <ℤ u
+t_rises : (f : FedChannel) → FedBytes f → (count higher : ℕ) (t u : ℤ) → count < higher → fed_scene f (pos count) ≡ just_t t → fed_scene f (pos higher) ≡ just_t u → t <ℤ u
 t_rises f bytes count higher t u more low high =
     let k = fed_constants f in
     let range = constants_fed f bytes (just_has_flag_zero f count t low) in
@@ -216,7 +216,7 @@ module _ (f : FedChannel) (bytes : FedBytes f) (zero_flag : fed_flag f ≡ 0) (w
 
   -- the channel is counted from 1
   numbered : from_to 1 channels (f.channel + 1) ≡ true
-  numbered = let below = f.isChannel in rw (le-leb 1 (f.channel + 1) (omega arith), le-leb (f.channel + 1) channels (omega arith))
+  numbered = let below = f.is_channel in rw (le-leb 1 (f.channel + 1) (omega arith), le-leb (f.channel + 1) channels (omega arith))
 
   answer_is : (bias : Bias) → answer_of (handed_back f bias) (f.channel + 1) wanted ≡ count_that fits 65536
   answer_is bias =
@@ -232,7 +232,7 @@ module _ (f : FedChannel) (bytes : FedBytes f) (zero_flag : fed_flag f ≡ 0) (w
       let just : (c : ℕ) → fits c ≡ true → delivered_with wanted (before_bias (fed_constants f) c) ≡ true = λ c fit. just_fits wanted (just_of_constants f c (pos wanted) (fits_just wanted (fed_scene f (pos c)) fit)) in
       only_count_fits (constants_fed f bytes zero_flag) wanted count other (just count one) (just other two)
 
-  only_found : (count : ℕ) → count ≤ 65535 → fed_scene f (pos count) ≡ justT (pos wanted) → count_that fits 65536 ≡ foundCount count
+  only_found : (count : ℕ) → count ≤ 65535 → fed_scene f (pos count) ≡ just_t (pos wanted) → count_that fits 65536 ≡ found_count count
   only_found count inside e =
       let fit = just_fits wanted e in
       only_one_fits fits 65536 count (omega arith) fit (λ other below also. only_fits other count also fit)

@@ -30,7 +30,7 @@ use Rattle.calibrator.specs.declared.Calibrator.{Calibrator}
 use Rattle.calibrator.specs.Refusals.{delivered}
 use Rattle.calibrator.specs.Feeding.{Feed, kept_by, fresh_of, step, calibrator_after, outcome_after}
 use Rattle.promise.specs.Roll.{Roll, begun, last_number, verdict_at, joined_by, joined}
-use Rattle.promise.specs.Moments.{shelfAt, channels_at}
+use Rattle.promise.specs.Moments.{shelf_at, channels_at}
 use Rattle.promise.specs.Restart.{rolled_by, recent, feeds_of, Restart}
 use Rattle.calibrator.proofs.Verdicts.{verdict_passes, passes_facts}
 use Rattle.promise.proofs.RollLaws.{scan_of_age, NumbersTo}
@@ -139,7 +139,7 @@ module _ (s : Settings) where
   channels_recent few scan roll =
       let older = recent (scan_number scan) roll in
       tabulate_same _ _ channels (λ c inside.
-      ap (channel_state_of s c (shelfAt s (fed_moment roll scan) c))
+      ap (channel_state_of s c (shelf_at s (fed_moment roll scan) c))
       (means_at_is s (fed_moment roll scan) c inside
       ∙ means_same few _ _ (λ k. by_age_shape s (scan ∷ roll) (scan_number scan) k) (λ k. by_age_shape s (scan ∷ older) (scan_number scan) k) (λ k below. joined_recent scan roll k below) c inside
       ∙ sym (means_at_is s (fed_moment older scan) c inside)))

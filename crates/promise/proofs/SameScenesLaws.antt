@@ -26,8 +26,8 @@ use Rattle.product.specs.Product.{product_size}
 use Rattle.calibrator.specs.Feeding.{Outcome}
 use Rattle.promise.specs.Restart.{rolled_by}
 use Rattle.promise.specs.Outcomes.{outcome_by}
-use Rattle.promise.specs.Moments.{Moment, means_at, shelfAt, tnl_at, d_at, n_at, t_at, count_at, product_at}
-use Rattle.scene.specs.BeforeBias.{TOrMark, justT, flaggedMark, outsideMark, guardMark, by_tests}
+use Rattle.promise.specs.Moments.{Moment, means_at, shelf_at, tnl_at, d_at, n_at, t_at, count_at, product_at}
+use Rattle.scene.specs.BeforeBias.{TOrMark, just_t, flagged_mark, outside_mark, guard_mark, by_tests}
 use Rattle.promise.specs.SameScenes.{flag_at, scene_before_bias, six_numbers, settings_of_fed, moment_of_fed, fed_scene_at, SameScenes, Shows, ScenesShown}
 use Rattle.promise.proofs.SceneClaims.{scene, flag_zero_scene, flagged_scene, n_is_numerator, count, word_is, word_delivered, scene_claim}
 use Rattle.promise.proofs.RestartLaws.{left_by_lem}
@@ -68,13 +68,13 @@ module _ (s : Settings) (bias : List ℕ) (m : Moment) (c i : ℕ) (range : Sett
     scene_by_tests : eqb (flag_at s m c) 0 ≡ true → scene s m c i deliver ≡ cond away Outside (cond fails Guard kelvins)
     unfolding scene_of constants_of
     scene_by_tests e =
-        flag_zero_scene s c (shelfAt s m c) (means_at s m c) deliver (count s m c i) (eqb-true (flag_at s m c) 0 e)
-        ∙ ap (λ n. let k = constants_of (means_at s m c) (s.channel c) (shelfAt s m c) in let t = temperature k.tc k.rise k.tnl k.d n in cond (outside n k.d) Outside (cond (guard_fails t) Guard (Kelvin (kelvin (nat_abs (deliver t)))))) (sym (n_is_numerator s m c i))
+        flag_zero_scene s c (shelf_at s m c) (means_at s m c) deliver (count s m c i) (eqb-true (flag_at s m c) 0 e)
+        ∙ ap (λ n. let k = constants_of (means_at s m c) (s.channel c) (shelf_at s m c) in let t = temperature k.tc k.rise k.tnl k.d n in cond (outside n k.d) Outside (cond (guard_fails t) Guard (Kelvin (kelvin (nat_abs (deliver t)))))) (sym (n_is_numerator s m c i))
         ∙ ap₂ (λ a b. cond a Outside (cond b Guard kelvins)) f g
 
   shows_by : (unflagged away fails : Bool) → eqb (flag_at s m c) 0 ≡ unflagged → outside (n_at s m c i) (d_at s m c) ≡ away → guard_fails (t_at s m c i) ≡ fails
-      → Shows product bias c i (cond unflagged (cond away outsideMark (cond fails guardMark (justT (t_at s m c i)))) flaggedMark)
-  shows_by false away fails e f g = word_is s bias m c i range file below inside rest ∙ ap bits (flagged_scene s c (shelfAt s m c) (means_at s m c) deliver (count s m c i) e)
+      → Shows product bias c i (cond unflagged (cond away outside_mark (cond fails guard_mark (just_t (t_at s m c i)))) flagged_mark)
+  shows_by false away fails e f g = word_is s bias m c i range file below inside rest ∙ ap bits (flagged_scene s c (shelf_at s m c) (means_at s m c) deliver (count s m c i) e)
   shows_by true true fails e f g = word_is s bias m c i range file below inside rest ∙ ap bits (scene_by_tests true fails f g e)
   shows_by true false true e f g = word_is s bias m c i range file below inside rest ∙ ap bits (scene_by_tests false true f g e)
   shows_by true false false e f g =
@@ -90,6 +90,6 @@ scenes_shown f bias file i inside =
     let table : Table = record { bytes = f.table } in
     let s = settings_of_fed f in
     let m = moment_of_fed f in
-    let left = left_by_lem table bias f.before f.feed ∙ ap (λ (v : Verdict). outcome_by s (by_bias bias.bytes) v (rolled_by [] f.before) f.feed) f.feedAccepted in
+    let left = left_by_lem table bias f.before f.feed ∙ ap (λ (v : Verdict). outcome_by s (by_bias bias.bytes) v (rolled_by [] f.before) f.feed) f.feed_accepted in
     subst (λ (o : Outcome). Shows o.buffer bias.bytes f.channel i (fed_scene_at f i)) (sym left)
-    (shows s bias.bytes m f.channel i (accepted_ranges f.tableAccepted) file f.isChannel inside (drop product_size f.feed.buffer))
+    (shows s bias.bytes m f.channel i (accepted_ranges f.table_accepted) file f.is_channel inside (drop product_size f.feed.buffer))

@@ -15,7 +15,7 @@ use Rattle.lists.specs.Sum.{sum}
 use Rattle.lists.proofs.Sum.{sum_same}
 use Rattle.lists.proofs.Tabulate.{length_tabulate, get_d_tabulate}
 use Rattle.thermometer.specs.Rule.{InRange}
-use Rattle.thermometer.specs.Reading.{Result, units, notRead}
+use Rattle.thermometer.specs.Reading.{Result, units, not_read}
 use Rattle.thermometer.proofs.ReadingLaws.{reading_units_in_range}
 use Rattle.instrument.specs.declared.Side.{Side}
 use Rattle.instrument.specs.declared.Side.TheVariants.{Warm, Cold}
@@ -83,7 +83,7 @@ over_chosen f values flags (suc n) =
 -- no T is 0
 kelvin_above : (s : Settings) (r : Result) → ((t : _) → r ≡ units t → InRange t) → in_limits s r ≡ true → in_kelvin r ≡ 0 → ⊥
 kelvin_above s (units t) range passed e = let low = kelvin_low (range t refl) in omega arith
-kelvin_above s (notRead n) range passed e = false≢true passed
+kelvin_above s (not_read n) range passed e = false≢true passed
 
 module _ (s : Settings) (value : List ℕ) (target : Target) where
   abbrev flags : List Bool

@@ -63,7 +63,7 @@ use Rattle.calibrator.specs.Feeding.{kept_by}
 use Rattle.promise.specs.Roll.{Roll}
 use Rattle.promise.specs.SameScenes.{settings_of_fed, moment_of_fed}
 use Rattle.promise.specs.BeforeBias.{DistanceBeforeBias}
-use Rattle.promise.specs.Moments.{Moment, current_number, means_at, shelfAt, tnl_at, unrounded_tnl_at, channels_at, product_at, ByTheRules, SceneClaim, is_delivered, delivered_in, word_at, units_at, n_at, t_at, e_at, deliveredAt, biased_eAt, equations_at}
+use Rattle.promise.specs.Moments.{Moment, current_number, means_at, shelf_at, tnl_at, unrounded_tnl_at, channels_at, product_at, ByTheRules, SceneClaim, is_delivered, delivered_in, word_at, units_at, n_at, t_at, e_at, delivered_at, biased_e_at, equations_at}
 use Rattle.promise.proofs.RollLaws.{scan_of_age}
 use Rattle.promise.proofs.SampleLaws.{scans_at, means_at_is}
 
@@ -108,7 +108,7 @@ mean_at : (s : Settings) (m : Moment) (c : ℕ) → c < channels → MeanWithin 
 unfolding means_from
 mean_at s m c below =
     let sums = kelvin_sums s (target_of c) (λ k i. get_or (scans_at s m k).kelvin i 0) (λ k i. by_age_kelvins s m.standing (current_number m) k i) in
-    subst MeanWithin (sym (means_at_is s m c below)) (record { weighted_low = sums.low; weighted-high = sums.high })
+    subst MeanWithin (sym (means_at_is s m c below)) (record { weighted_low = sums.low; weighted_high = sums.high })
 
 -- ---- the scene of a channel with this flag and these constants
 module _ (s : Settings) (c : ℕ) (shelf : ℤ) (m : Means) where
@@ -131,7 +131,7 @@ module _ (s : Settings) (m : Moment) (c i : ℕ) where
   means = means_at s m c
 
   abbrev shelf : ℤ
-  shelf = shelfAt s m c
+  shelf = shelf_at s m c
 
   abbrev constants : Constants
   constants = constants_of means (s.channel c) shelf
@@ -148,7 +148,7 @@ module _ (s : Settings) (m : Moment) (c i : ℕ) where
   t_is_temperature = ap (λ n. temperature (Tc (s.channel c)) (Tw means (s.channel c) -ℤ Tc (s.channel c)) (tnl_at s m c) (D means) n) n_is_numerator
 
   rules_unflagged : ByTheRules s m c i → Unflagged s (target_of c) means
-  rules_unflagged h = record { thermometers = h.thermometers; warm = h.warm; cold = h.cold; d = h.warmAboveCold }
+  rules_unflagged h = record { thermometers = h.thermometers; warm = h.warm; cold = h.cold; d = h.warm_above_cold }
 
   rules_flag_zero : ByTheRules s m c i → flag_of s (target_of c) means ≡ 0
   rules_flag_zero h = unflagged_flag_zero s (target_of c) means (rules_unflagged h)
@@ -156,10 +156,10 @@ module _ (s : Settings) (m : Moment) (c i : ℕ) where
   rules_pass : ByTheRules s m c i → Passes constants count
   unfolding constants_of
   rules_pass h = record {
-    not_negative = subst (λ n. pos 0 ≤ℤ n) n_is_numerator h.notBelow;
+    not_negative = subst (λ n. pos 0 ≤ℤ n) n_is_numerator h.not_below;
     not_above_lem = subst (λ n. (pos 4 *ℤ n) ≤ℤ (pos 5 *ℤ D means)) n_is_numerator h.not_above;
-    guard-low = subst (λ t. pos 1 ≤ℤ t) t_is_temperature h.guardLow;
-    guard-high = subst (λ t. t ≤ℤ pos 16777215) t_is_temperature h.guardHigh;
+    guard_low_lem = subst (λ t. pos 1 ≤ℤ t) t_is_temperature h.guard_low;
+    guard_high_lem = subst (λ t. t ≤ℤ pos 16777215) t_is_temperature h.guard_high;
   }
 
   pass_rules : Unflagged s (target_of c) means → Passes constants count → ByTheRules s m c i
@@ -168,11 +168,11 @@ module _ (s : Settings) (m : Moment) (c i : ℕ) where
     thermometers = u.thermometers;
     warm = u.warm;
     cold = u.cold;
-    warmAboveCold = u.d;
-    notBelow = subst (λ n. pos 0 ≤ℤ n) (sym n_is_numerator) p.not_negative;
+    warm_above_cold = u.d;
+    not_below = subst (λ n. pos 0 ≤ℤ n) (sym n_is_numerator) p.not_negative;
     not_above = subst (λ n. (pos 4 *ℤ n) ≤ℤ (pos 5 *ℤ D means)) (sym n_is_numerator) p.not_above_lem;
-    guardLow = subst (λ t. pos 1 ≤ℤ t) (sym t_is_temperature) p.guard-low;
-    guardHigh = subst (λ t. t ≤ℤ pos 16777215) (sym t_is_temperature) p.guard-high;
+    guard_low = subst (λ t. pos 1 ≤ℤ t) (sym t_is_temperature) p.guard_low_lem;
+    guard_high = subst (λ t. t ≤ℤ pos 16777215) (sym t_is_temperature) p.guard_high_lem;
   }
 
   -- T of any count that passes the tests is in its range
@@ -183,9 +183,9 @@ module _ (s : Settings) (m : Moment) (c i : ℕ) where
       let within = temperatures_within (mean_at s m c below) (range.channel c below) (flag_zero_weights_above range (target_of c) means zero_flag) in
       record {
         tc_low = within.tc_low;
-        tc-high = within.tc-high;
-        rise-low = within.rise-low;
-        rise-high = within.rise-high;
+        tc_high = within.tc_high;
+        rise_low = within.rise_low;
+        rise_high = within.rise_high;
         tnl_bounded = tnl_bounded (range.channel c below).pair shelf;
         d_above = (flag_zero_unflagged s (target_of c) means zero_flag).d;
         n_low = passed.not_negative;
@@ -223,20 +223,20 @@ module _ (s : Settings) (m : Moment) (c i : ℕ) where
 -- ---- before scan bias: T is at most 21/8 units from E
 module _ (s : Settings) (m : Moment) (c : ℕ) (range : SettingsRange s) (below : c < channels) where
   tnl_above : pos 0 <ℤ (unrounded_tnl_at s m c).den
-  tnl_above = unrounded_above (range.channel c below).pair (shelfAt s m c)
+  tnl_above = unrounded_above (range.channel c below).pair (shelf_at s m c)
 
-  weights_above : {i : ℕ} → ByTheRules s m c i → pos 0 <ℤ pos (means_at s m c).sum_vP
+  weights_above : {i : ℕ} → ByTheRules s m c i → pos 0 <ℤ pos (means_at s m c).sum_vp
   weights_above {i} h = natural_below (flag_zero_weights_above range (target_of c) (means_at s m c) (rules_flag_zero s m c i h))
 
   temperature_near : {i : ℕ} → ByTheRules s m c i → Distance (pos 21 /ᶠ pos 8) (t_at s m c i) (e_at s m c i)
   temperature_near h =
       let sums = means_at s m c in
       let pairs = (range.channel c below).pair in
-      temperature_distance (Tc (s.channel c)) (tnl_at s m c) (pos sums.sum_vPT) (pos sums.sum_vP) (s.channel c).b (unrounded_tnl_at s m c) h.warmAboveCold h.notBelow h.not_above
-      (tnl_bounded pairs (shelfAt s m c)) (weights_above h) tnl_above (tnl_within_half pairs (shelfAt s m c))
+      temperature_distance (Tc (s.channel c)) (tnl_at s m c) (pos sums.sum_vpt) (pos sums.sum_vp) (s.channel c).b (unrounded_tnl_at s m c) h.warm_above_cold h.not_below h.not_above
+      (tnl_bounded pairs (shelf_at s m c)) (weights_above h) tnl_above (tnl_within_half pairs (shelf_at s m c))
 
 pub distance_before_bias : DistanceBeforeBias
-distance_before_bias f i = temperature_near (settings_of_fed f) (moment_of_fed f) f.channel (accepted_ranges f.tableAccepted) f.isChannel
+distance_before_bias f i = temperature_near (settings_of_fed f) (moment_of_fed f) f.channel (accepted_ranges f.table_accepted) f.is_channel
 
 -- ---- and the product's bytes
 module _ (s : Settings) (bias : List ℕ) (m : Moment) (c i : ℕ) (range : SettingsRange s) (file : AcceptedBias bias) (below : c < channels) (inside : i < positions) (rest : List ℕ) where
@@ -256,9 +256,9 @@ module _ (s : Settings) (bias : List ℕ) (m : Moment) (c i : ℕ) (range : Sett
   pair = accepted_bias_ranges file c below i inside
 
   -- what is delivered is a whole number of units whose f32 is exact
-  in-units : InUnitsBy deliver (channel_state_of s c (shelfAt s m c) sums)
+  in-units : InUnitsBy deliver (channel_state_of s c (shelf_at s m c) sums)
   in-units = record {
-    within = flag_zero_constants s c (shelfAt s m c) sums (λ k. (n : ℕ) → Passes k n → WithinGuard (deliver (temperature_of k n)))
+    within = flag_zero_constants s c (shelf_at s m c) sums (λ k. (n : ℕ) → Passes k n → WithinGuard (deliver (temperature_of k n)))
         (λ zero_flag n passed. units_by_bias pair (passes_range s m c i range below zero_flag n passed));
   }
 
@@ -268,10 +268,10 @@ module _ (s : Settings) (bias : List ℕ) (m : Moment) (c i : ℕ) (range : Sett
   pub word_is : word_at product c i ≡ bits (scene s m c i deliver)
   word_is =
       scene_in_product (by_bias bias) (current_number m) (channels_at s m) (earth_counts m.scan) rest c below i inside
-      ∙ ap (λ (channel : Channel). bits (scene_at (by_bias bias c) channel (earth_part (earth_counts m.scan) c) i)) (get_d_tabulate (λ c. channel_state_of s c (shelfAt s m c) (means_at s m c)) channels c no_channel below)
+      ∙ ap (λ (channel : Channel). bits (scene_at (by_bias bias c) channel (earth_part (earth_counts m.scan) c) i)) (get_d_tabulate (λ c. channel_state_of s c (shelf_at s m c) (means_at s m c)) channels c no_channel below)
 
   pub word_delivered : is_delivered (word_at product c i) ≡ scene_delivered (scene s m c i deliver)
-  word_delivered = ap is_delivered word_is ∙ bits_delivered deliver (channel_state_of s c (shelfAt s m c) sums) in-units scene_count
+  word_delivered = ap is_delivered word_is ∙ bits_delivered deliver (channel_state_of s c (shelf_at s m c) sums) in-units scene_count
 
   rules : is_delivered (word_at product c i) ≡ true → ByTheRules s m c i
   rules h = delivered_rules s m c i deliver (scene s m c i deliver) refl (sym word_delivered ∙ h)
@@ -285,22 +285,22 @@ module _ (s : Settings) (bias : List ℕ) (m : Moment) (c i : ℕ) (range : Sett
   float_is h = ap (of_bits binary32) (word_is ∙ ap bits (rules_scene s m c i deliver h)) ∙ kelvin_bits_back (nat_abs (deliver (temperature_of of_channel scene_count)))
 
   -- 4096 times the f32 is the delivered temperature
-  exactly : (h : ByTheRules s m c i) → Equal (units_at product c i) (whole (deliveredAt s m c i bias))
+  exactly : (h : ByTheRules s m c i) → Equal (units_at product c i) (whole (delivered_at s m c i bias))
   exactly h =
       let within = units_by_bias pair (passes_range s m c i range below (rules_flag_zero s m c i h) scene_count (rules_pass s m c i h)) in
       subst₂ (λ (x : Float) (z : ℤ). Equal (units_of x) (whole z)) (sym (float_is h)) (within.same ∙ sym (ap deliver (t_is_temperature s m c i)))
       (units_of_kelvin (nat_abs (deliver (temperature_of of_channel scene_count))) within.low within.high)
 
-  near_e : (h : ByTheRules s m c i) → Near (pos 71 /ᶠ pos 16) (units_at product c i) (biased_eAt s m c i bias)
+  near_e : (h : ByTheRules s m c i) → Near (pos 71 /ᶠ pos 16) (units_at product c i) (biased_e_at s m c i bias)
   near_e h = near_of_distance (exactly h) (biased_distance (c0_in (bias_part bias c) i) (e_bounded pair) (lt_z_yes tt) (temperature_near s m c range below h))
 
   -- E by the equations
-  rise_above : (h : ByTheRules s m c i) → pos 0 <ℤ (unrounded_tw (pos sums.sum_vPT) (pos sums.sum_vP) (s.channel c).b -ᶠ whole (Tc (s.channel c))).num
+  rise_above : (h : ByTheRules s m c i) → pos 0 <ℤ (unrounded_tw (pos sums.sum_vpt) (pos sums.sum_vp) (s.channel c).b -ᶠ whole (Tc (s.channel c))).num
   rise_above h =
       let row = range.channel c below in
-      let least : least_kelvin * sums.sum_vP ≤ sums.sum_vPT = omega (arith, (mean_at s m c below).weighted_low) in
+      let least : least_kelvin * sums.sum_vp ≤ sums.sum_vpt = omega (arith, (mean_at s m c below).weighted_low) in
       let cold : 11166 + (s.channel c).rj + (s.channel c).sl ≤ 43934 = omega (arith, row.rj, row.sl) in
-      lt_by ((pos sums.sum_vPT) ∷ (pos sums.sum_vP) ∷ (s.channel c).b ∷ (Tc (s.channel c)) ∷ [])
+      lt_by ((pos sums.sum_vpt) ∷ (pos sums.sum_vp) ∷ (s.channel c).b ∷ (Tc (s.channel c)) ∷ [])
       ((# 0 :< v1) ∷ (# 873062 :* v1 :≤ v0) ∷ (opp (# 4096) :≤ v2) ∷ (v3 :≤ # 43934) ∷ [])
       (# 0) ((v0 :* # 1 :+ v2 :* v1) :* # 1 :- v3 :* (v1 :* # 1))
       (hyp 0 ⊕ nat 825032 ⊗ hyp 1 ⊕ hyp 2 ⊕ hyp 3 ⊕ hyp 4 ⊕ hyp 1 ⊗ hyp 3 ⊕ hyp 1 ⊗ hyp 4)
@@ -309,8 +309,8 @@ module _ (s : Settings) (bias : List ℕ) (m : Moment) (c i : ℕ) (range : Sett
   by_equations : (h : ByTheRules s m c i) → Equal (equations_at s m c i) (e_at s m c i)
   by_equations h =
       let z = rules_flag_zero s m c i h in
-      corrected_same (pos sums.Aw) (pos sums.Ac) (pos scene_count) (Tc (s.channel c)) (unrounded_tw (pos sums.sum_vPT) (pos sums.sum_vP) (s.channel c).b) (unrounded_tnl_at s m c)
-      (natural_below (flag_zero_warm_above range (target_of c) sums z)) (natural_below (flag_zero_cold_above range (target_of c) sums z)) h.warmAboveCold
+      corrected_same (pos sums.Aw) (pos sums.Ac) (pos scene_count) (Tc (s.channel c)) (unrounded_tw (pos sums.sum_vpt) (pos sums.sum_vp) (s.channel c).b) (unrounded_tnl_at s m c)
+      (natural_below (flag_zero_warm_above range (target_of c) sums z)) (natural_below (flag_zero_cold_above range (target_of c) sums z)) h.warm_above_cold
       (product_above (weights_above s m c range below h) one_above) (rise_above h) (tnl_above s m c range below)
 
   pub scene_claim : SceneClaim s bias m (product_at s m (by_bias bias) ++ rest) c i
@@ -322,5 +322,5 @@ module _ (s : Settings) (bias : List ℕ) (m : Moment) (range : SettingsRange s)
   delivered_in_lem =
       delivered_count_lem (by_bias bias) (channels_at s m) (earth_counts m.scan)
       ∙ sum_same _ _ channels (λ c below. count_same _ _ positions (λ i inside.
-      ap (λ (channel : Channel). scene_delivered (scene_at (by_bias bias c) channel (earth_part (earth_counts m.scan) c) i)) (get_d_tabulate (λ c. channel_state_of s c (shelfAt s m c) (means_at s m c)) channels c no_channel below)
+      ap (λ (channel : Channel). scene_delivered (scene_at (by_bias bias c) channel (earth_part (earth_counts m.scan) c) i)) (get_d_tabulate (λ c. channel_state_of s c (shelf_at s m c) (means_at s m c)) channels c no_channel below)
       ∙ sym (word_delivered s bias m c i range file below inside rest)))

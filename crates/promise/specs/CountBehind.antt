@@ -8,8 +8,8 @@ use Rattle.table.specs.Settings.{Settings, settings_of}
 use Rattle.table.specs.Opening.{ages, AcceptedTable}
 use Rattle.bias.specs.declared.Bias.{Bias}
 use Rattle.bias.specs.Opening.{AcceptedBias}
-use Rattle.scene.specs.BeforeBias.{justT, flaggedMark}
-use Rattle.lookup.specs.Lookup.{Found, foundCount, noCount, lookup_verdict, found_if, count_behind}
+use Rattle.scene.specs.BeforeBias.{just_t, flagged_mark}
+use Rattle.lookup.specs.Lookup.{Found, found_count, no_count, lookup_verdict, found_if, count_behind}
 use Rattle.calibrator.specs.declared.Calibrator.{Calibrator}
 use Rattle.calibrator.specs.Feeding.{Feed, fresh_of, step, calibrator_after, OfBytes, AllOfBytes}
 use Rattle.promise.specs.Roll.{Roll, verdict_at}
@@ -24,7 +24,7 @@ answer_of c channel wanted = count_behind c.last channel wanted
 
 -- what the roll says: its last record with the records that stand; 12 while it is empty
 abbrev pub answer_of_roll : Settings → Roll → (channel wanted : ℕ) → Found
-answer_of_roll s [] channel wanted = found_if (lookup_verdict channel false 0) (λ count. flaggedMark) wanted
+answer_of_roll s [] channel wanted = found_if (lookup_verdict channel false 0) (λ count. flagged_mark) wanted
 answer_of_roll s (scan ∷ roll) channel wanted =
     let m = fed_moment roll scan in let c = channel - 1 in
     found_if (lookup_verdict channel true (flag_at s m c)) (λ count. scene_before_bias s m c (pos count)) wanted
@@ -59,14 +59,14 @@ FedBytes f = AllOfBytes f.before × OfBytes f.feed
 -- ---- of two delivered counts of a channel the higher has the higher T, roundings included
 abbrev pub HigherCountHigherT : Type 0
 HigherCountHigherT =
-    (f : FedChannel) → FedBytes f → (count higher : ℕ) (t u : ℤ) → count < higher → fed_scene f (pos count) ≡ justT t → fed_scene f (pos higher) ≡ justT u → t <ℤ u
+    (f : FedChannel) → FedBytes f → (count higher : ℕ) (t u : ℤ) → count < higher → fed_scene f (pos count) ≡ just_t t → fed_scene f (pos higher) ≡ just_t u → t <ℤ u
 
 -- ---- so that no second count fits: in a channel with flag 0, after its feed, the answer is a count exactly where that count is delivered with
 -- the wanted T, and none only where no count is
 pub record AnswerSays (f : FedChannel) (answer : Found) (wanted : ℕ) : Type 0 where
-  pub found : (n : ℕ) → answer ≡ foundCount n → (n ≤ 65535) × (fed_scene f (pos n) ≡ justT (pos wanted))
-  pub only : (count : ℕ) → count ≤ 65535 → fed_scene f (pos count) ≡ justT (pos wanted) → answer ≡ foundCount count
-  pub none : answer ≡ noCount → (count : ℕ) → count ≤ 65535 → fed_scene f (pos count) ≡ justT (pos wanted) → ⊥
+  pub found : (n : ℕ) → answer ≡ found_count n → (n ≤ 65535) × (fed_scene f (pos n) ≡ just_t (pos wanted))
+  pub only : (count : ℕ) → count ≤ 65535 → fed_scene f (pos count) ≡ just_t (pos wanted) → answer ≡ found_count count
+  pub none : answer ≡ no_count → (count : ℕ) → count ≤ 65535 → fed_scene f (pos count) ≡ just_t (pos wanted) → ⊥
 
 abbrev pub AnswersSay : Type 0
 AnswersSay =

@@ -43,14 +43,14 @@ module _ (s : Settings) (m : Moment) where
   means_at c = sums_of s (λ k. samples_of_age s m.standing (current_number m) k) c
 
   -- Request W4: TNL of channel c, from this record's own shelf temperature; whole and unrounded
-  abbrev pub shelfAt : ℕ → ℤ
-  shelfAt c = shelf_temperature (shelf_temperatures m.scan) (shelf_of c)
+  abbrev pub shelf_at : ℕ → ℤ
+  shelf_at c = shelf_temperature (shelf_temperatures m.scan) (shelf_of c)
 
   abbrev pub tnl_at : ℕ → ℤ
-  tnl_at c = tnl_of (s.channel c).pair (shelfAt c)
+  tnl_at c = tnl_of (s.channel c).pair (shelf_at c)
 
   abbrev pub unrounded_tnl_at : ℕ → Fraction
-  unrounded_tnl_at c = unrounded_tnl (s.channel c).pair (shelfAt c)
+  unrounded_tnl_at c = unrounded_tnl (s.channel c).pair (shelf_at c)
 
   -- D of channel c, and N and T of a count there
   abbrev pub d_at : ℕ → ℤ
@@ -63,7 +63,7 @@ module _ (s : Settings) (m : Moment) where
   t_of c count = let channel = s.channel c in temperature (Tc channel) (Tw (means_at c) channel -ℤ Tc channel) (tnl_at c) (d_at c) (n_of c count)
 
   abbrev pub channels_at : List Channel
-  channels_at = tabulate (λ c. channel_state_of s c (shelfAt c) (means_at c)) channels
+  channels_at = tabulate (λ c. channel_state_of s c (shelf_at c) (means_at c)) channels
 
   abbrev pub product_at : (ℕ → Deliver) → List ℕ
   product_at deliver = product_of deliver (current_number m) channels_at (earth_counts m.scan)
@@ -80,7 +80,7 @@ module _ (s : Settings) (m : Moment) (c i : ℕ) where
   t_at = t_of s m c count_at
 
   abbrev pub unrounded_tw_at : Fraction
-  unrounded_tw_at = let sums = means_at s m c in unrounded_tw (pos sums.sum_vPT) (pos sums.sum_vP) (s.channel c).b
+  unrounded_tw_at = let sums = means_at s m c in unrounded_tw (pos sums.sum_vpt) (pos sums.sum_vp) (s.channel c).b
 
   abbrev pub e_at : Fraction
   e_at = E (n_at /ᶠ d_at s m c) unrounded_tw_at (whole (Tc (s.channel c))) (unrounded_tnl_at s m c)
@@ -91,22 +91,22 @@ module _ (s : Settings) (m : Moment) (c i : ℕ) where
       let sums = means_at s m c in corrected (mean_count (pos sums.Aw) (pos sums.Ww)) (mean_count (pos sums.Ac) (pos sums.Wc)) unrounded_tw_at (whole (Tc (s.channel c))) (unrounded_tnl_at s m c) (whole count_at)
 
   -- with scan bias: what is delivered for T, and equation 30 over E
-  abbrev pub deliveredAt : (bias : List ℕ) → ℤ
-  deliveredAt bias = by_bias bias c i t_at
+  abbrev pub delivered_at : (bias : List ℕ) → ℤ
+  delivered_at bias = by_bias bias c i t_at
 
-  abbrev pub biased_eAt : (bias : List ℕ) → Fraction
-  biased_eAt bias = let part = bias_part bias c in biased_e (c0_in part i) (e_in part i) e_at
+  abbrev pub biased_e_at : (bias : List ℕ) → Fraction
+  biased_e_at bias = let part = bias_part bias c in biased_e (c0_in part i) (e_in part i) e_at
 
   -- the three weight sums suffice, the mean warm count is above the mean cold, the scene lies from 0 to 1.25, and the guard passes
   pub record ByTheRules : Type 0 where
-    pub thermometers : too_few_thermometers s (target_of c) (means_at s m c).sum_vP ≡ false
+    pub thermometers : too_few_thermometers s (target_of c) (means_at s m c).sum_vp ≡ false
     pub warm : too_few_counts s Warm (means_at s m c).Ww ≡ false
     pub cold : too_few_counts s Cold (means_at s m c).Wc ≡ false
-    pub warmAboveCold : pos 0 <ℤ d_at s m c
-    pub notBelow : pos 0 ≤ℤ n_at
+    pub warm_above_cold : pos 0 <ℤ d_at s m c
+    pub not_below : pos 0 ≤ℤ n_at
     pub not_above : (pos 4 *ℤ n_at) ≤ℤ (pos 5 *ℤ d_at s m c)
-    pub guardLow : pos 1 ≤ℤ t_at
-    pub guardHigh : t_at ≤ℤ pos 16777215
+    pub guard_low : pos 1 ≤ℤ t_at
+    pub guard_high : t_at ≤ℤ pos 16777215
 
 -- ---- a scene as the product's bytes have it: its four bytes in field 0x22
 abbrev pub word_at : List ℕ → ℕ → ℕ → ℕ
@@ -130,8 +130,8 @@ pub record SceneClaim (s : Settings) (bias : List ℕ) (m : Moment) (product : L
   pub rules : is_delivered (word_at product c i) ≡ true → ByTheRules s m c i
   pub delivers : ByTheRules s m c i → is_delivered (word_at product c i) ≡ true
   -- it is then exactly the delivered temperature / 4096
-  pub exact : is_delivered (word_at product c i) ≡ true → Equal (units_at product c i) (whole (deliveredAt s m c i bias))
+  pub exact : is_delivered (word_at product c i) ≡ true → Equal (units_at product c i) (whole (delivered_at s m c i bias))
   -- and at most 71/16 units from c0 + (1 + e / 65,536) E
-  pub distance : is_delivered (word_at product c i) ≡ true → Near (pos 71 /ᶠ pos 16) (units_at product c i) (biased_eAt s m c i bias)
+  pub distance : is_delivered (word_at product c i) ≡ true → Near (pos 71 /ᶠ pos 16) (units_at product c i) (biased_e_at s m c i bias)
   -- where E is what equations 25 to 29 give
   pub equations : is_delivered (word_at product c i) ≡ true → Equal (equations_at s m c i) (e_at s m c i)

@@ -12,7 +12,7 @@ use Rattle.bias.specs.Opening.{AcceptedBias}
 use Rattle.window.specs.Means.{Tw, Tc, flag_of}
 use Rattle.scene.specs.declared.Scene.TheVariants.{Flagged, Outside, Guard}
 use Rattle.scene.specs.Scene.{bits}
-use Rattle.scene.specs.BeforeBias.{TOrMark, justT, flaggedMark, outsideMark, guardMark, by_tests}
+use Rattle.scene.specs.BeforeBias.{TOrMark, just_t, flagged_mark, outside_mark, guard_mark, by_tests}
 use Rattle.product.specs.Scenes.{by_bias}
 use Rattle.calibrator.specs.Feeding.{Feed, fresh_of, outcome_after}
 use Rattle.promise.specs.Roll.{verdict_at}
@@ -28,7 +28,7 @@ module _ (s : Settings) (m : Moment) (c : ℕ) where
 
   -- what it makes of a count before scan bias (document 01, "Scenes")
   abbrev pub scene_before_bias : ℤ → TOrMark
-  scene_before_bias count = cond (eqb flag_at 0) (by_tests (n_of s m c count) (d_at s m c) (t_of s m c count)) flaggedMark
+  scene_before_bias count = cond (eqb flag_at 0) (by_tests (n_of s m c count) (d_at s m c) (t_of s m c count)) flagged_mark
 
   -- Tc, Tw - Tc, TNL, D, 12 × Wc × Ww and Ac × Ww
   abbrev pub six_numbers : List ℤ
@@ -39,12 +39,12 @@ module _ (s : Settings) (m : Moment) (c : ℕ) where
 -- ---- a channel of an accepted feed, under an accepted table, after a list of feeds from a fresh calibrator
 pub record FedChannel : Type 0 where
   pub table : List ℕ
-  pub tableAccepted : AcceptedTable table
+  pub table_accepted : AcceptedTable table
   pub before : List Feed
   pub feed : Feed
-  pub feedAccepted : verdict_at (rolled_by [] before) feed ≡ passes
+  pub feed_accepted : verdict_at (rolled_by [] before) feed ≡ passes
   pub channel : ℕ
-  pub isChannel : channel < channels
+  pub is_channel : channel < channels
 
 module _ (f : FedChannel) where
   abbrev pub settings_of_fed : Settings
@@ -78,10 +78,10 @@ SameScenes =
 
 -- ---- and they are the scenes of the products: position i shows what scan bias makes of T, or the mark, of the record's count there
 abbrev pub Shows : (product bias : List ℕ) (c i : ℕ) → TOrMark → Type 0
-Shows product bias c i (justT t) = (is_delivered (word_at product c i) ≡ true) × Equal (units_at product c i) (whole (by_bias bias c i t))
-Shows product bias c i flaggedMark = word_at product c i ≡ bits Flagged
-Shows product bias c i outsideMark = word_at product c i ≡ bits Outside
-Shows product bias c i guardMark = word_at product c i ≡ bits Guard
+Shows product bias c i (just_t t) = (is_delivered (word_at product c i) ≡ true) × Equal (units_at product c i) (whole (by_bias bias c i t))
+Shows product bias c i flagged_mark = word_at product c i ≡ bits Flagged
+Shows product bias c i outside_mark = word_at product c i ≡ bits Outside
+Shows product bias c i guard_mark = word_at product c i ≡ bits Guard
 
 abbrev pub ScenesShown : Type 0
 ScenesShown =

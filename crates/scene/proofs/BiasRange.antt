@@ -19,11 +19,11 @@ use Rattle.scene.proofs.Distance.{SceneRoundings, roundings_of}
 use Rattle.scene.proofs.Ranges.{SceneRange, scene_rise_not_negative, scene_x_bounded, scene_linear_bounded, bend_bounded, four_tnl_bounded, bend_of_four_tnl}
 
 -- ---- the linear part and the bend, by X
-module _ {tc rise tnl d n x linear bend : ℤ} (s : SceneRoundings tc rise tnl d n x linear bend) (rise-low : pos 825032 ≤ℤ rise)
+module _ {tc rise tnl d n x linear bend : ℤ} (s : SceneRoundings tc rise tnl d n x linear bend) (rise_low : pos 825032 ≤ℤ rise)
     (linear-low : pos 0 ≤ℤ linear) (x-low : pos 0 ≤ℤ x) (x_high : x ≤ℤ pos 81920) where
   -- the linear part is at least (X - 1/2) rise / 65,536, less a half
   linear_by_x : ((pos 2 *ℤ x -ℤ pos 1) *ℤ rise -ℤ pos 65536) ≤ℤ (pos 131072 *ℤ linear)
-  linear_by_x = (le_by (d ∷ n ∷ x ∷ rise ∷ linear ∷ []) ((# 0 :< v0) ∷ (# 825032 :≤ v3) ∷ (# 2 :* (v0 :* v2 :- # 65536 :* v1) :≤ v0) ∷ (opp v0 :≤ # 2 :* (v0 :* v4 :- v1 :* v3)) ∷ []) ((# 2 :* v2 :- # 1) :* v3 :- # 65536) (# 131072 :* v4) (hyp 0 ⊕ hyp 1 ⊕ hyp 0 ⊗ hyp 1 ⊕ nat 825032 ⊗ hyp 3 ⊕ nat 65536 ⊗ hyp 4 ⊕ hyp 2 ⊗ hyp 3) tt s.d_above rise-low s.x-near.twice.high s.linear-near.twice.low)
+  linear_by_x = (le_by (d ∷ n ∷ x ∷ rise ∷ linear ∷ []) ((# 0 :< v0) ∷ (# 825032 :≤ v3) ∷ (# 2 :* (v0 :* v2 :- # 65536 :* v1) :≤ v0) ∷ (opp v0 :≤ # 2 :* (v0 :* v4 :- v1 :* v3)) ∷ []) ((# 2 :* v2 :- # 1) :* v3 :- # 65536) (# 131072 :* v4) (hyp 0 ⊕ hyp 1 ⊕ hyp 0 ⊗ hyp 1 ⊕ nat 825032 ⊗ hyp 3 ⊕ nat 65536 ⊗ hyp 4 ⊕ hyp 2 ⊗ hyp 3) tt s.d_above rise_low s.x_near.twice.high s.linear_near.twice.low)
 
   rest_bounded : Bounded (pos 65536 -ℤ x) (pos 65536)
   rest_bounded = record {
@@ -36,10 +36,10 @@ module _ {tc rise tnl d n x linear bend : ℤ} (s : SceneRoundings tc rise tnl d
   bend_by_x =
       let p = pos 4 *ℤ x *ℤ (pos 65536 -ℤ x) *ℤ tnl in
       let product = bounded_product (bounded_product (bounded_product (number_bounded 4) (bounded_by_itself x-low)) rest_bounded) s.tnl_bounded in
-      (le_by (x ∷ p ∷ bend ∷ []) ((opp (# 4 :* v0 :* # 65536 :* # 8192) :≤ v1) ∷ (opp (# 4294967296) :≤ # 2 :* (# 4294967296 :* v2 :- v1)) ∷ []) (# 0 :- v0 :- # 1) (# 2 :* v2) (nat 4294967296 ⊗ hyp 0 ⊕ nat 2 ⊗ hyp 1 ⊕ hyp 2) tt product.low s.bend-near.twice.low)
+      (le_by (x ∷ p ∷ bend ∷ []) ((opp (# 4 :* v0 :* # 65536 :* # 8192) :≤ v1) ∷ (opp (# 4294967296) :≤ # 2 :* (# 4294967296 :* v2 :- v1)) ∷ []) (# 0 :- v0 :- # 1) (# 2 :* v2) (nat 4294967296 ⊗ hyp 0 ⊕ nat 2 ⊗ hyp 1 ⊕ hyp 2) tt product.low s.bend_near.twice.low)
 
   parts_not_negative : pos 0 <ℤ x → pos 0 ≤ℤ (linear +ℤ bend)
-  parts_not_negative some = (le_by (x ∷ rise ∷ linear ∷ bend ∷ []) ((# 0 :< v0) ∷ (# 825032 :≤ v1) ∷ ((# 2 :* v0 :- # 1) :* v1 :- # 65536 :≤ # 131072 :* v2) ∷ (# 0 :- v0 :- # 1 :≤ # 2 :* v3) ∷ []) (# 0) (v2 :+ v3) (nat 131072 ⊗ hyp 0 ⊕ nat 1584528 ⊗ hyp 1 ⊕ hyp 2 ⊕ hyp 3 ⊕ nat 65536 ⊗ hyp 4 ⊕ nat 2 ⊗ hyp 1 ⊗ hyp 2) tt some rise-low linear_by_x bend_by_x)
+  parts_not_negative some = (le_by (x ∷ rise ∷ linear ∷ bend ∷ []) ((# 0 :< v0) ∷ (# 825032 :≤ v1) ∷ ((# 2 :* v0 :- # 1) :* v1 :- # 65536 :≤ # 131072 :* v2) ∷ (# 0 :- v0 :- # 1 :≤ # 2 :* v3) ∷ []) (# 0) (v2 :+ v3) (nat 131072 ⊗ hyp 0 ⊕ nat 1584528 ⊗ hyp 1 ⊕ hyp 2 ⊕ hyp 3 ⊕ nat 65536 ⊗ hyp 4 ⊕ nat 2 ⊗ hyp 1 ⊗ hyp 2) tt some rise_low linear_by_x bend_by_x)
 
   none_taken_off : x ≤ℤ pos 0 → pos 0 ≤ℤ (linear +ℤ bend)
   none_taken_off none = (le_by (x ∷ linear ∷ bend ∷ []) ((v0 :≤ # 0) ∷ (# 0 :≤ v1) ∷ (# 0 :- v0 :- # 1 :≤ # 2 :* v2) ∷ []) (# 0) (v1 :+ v2) (nat 2 ⊗ hyp 0 ⊕ hyp 1 ⊕ nat 2 ⊗ hyp 2 ⊕ hyp 3) tt none linear-low bend_by_x)
@@ -64,7 +64,7 @@ module _ {tc rise tnl d n : ℤ} (s : SceneRange tc rise tnl d n) where
       let x = X n d in
       let linear = r (n *ℤ rise) d in
       let bend = r (pos 4 *ℤ x *ℤ (pos 65536 -ℤ x) *ℤ tnl) (pos 4294967296) in
-      let together = parts_together (roundings_of tc rise tnl s.d_above s.n_low s.n_high s.tnl_bounded) s.rise-low linear_not_negative x_not_negative (scene_x_bounded s).high in
+      let together = parts_together (roundings_of tc rise tnl s.d_above s.n_low s.n_high s.tnl_bounded) s.rise_low linear_not_negative x_not_negative (scene_x_bounded s).high in
       (le_by (tc ∷ linear ∷ bend ∷ []) ((# 11166 :≤ v0) ∷ (# 0 :≤ v1 :+ v2) ∷ []) (# 11166) (v0 :+ v1 :+ v2) (hyp 0 ⊕ hyp 1 ⊕ hyp 2) tt s.tc_low together)
 
   pub temperature_high : temperature tc rise tnl d n ≤ℤ pos 1832984
@@ -73,7 +73,7 @@ module _ {tc rise tnl d n : ℤ} (s : SceneRange tc rise tnl d n) where
       let x = X n d in
       let linear = r (n *ℤ rise) d in
       let bend = r (pos 4 *ℤ x *ℤ (pos 65536 -ℤ x) *ℤ tnl) (pos 4294967296) in
-      (le_by (tc ∷ linear ∷ bend ∷ []) ((v0 :≤ # 43934) ∷ (v1 :≤ # 1696890) ∷ (v2 :≤ # 92160) ∷ []) (v0 :+ v1 :+ v2) (# 1832984) (hyp 0 ⊕ hyp 1 ⊕ hyp 2 ⊕ hyp 3) tt s.tc-high (scene_linear_bounded s).high (rw (bend_of_four_tnl x tnl) at (bend_bounded (scene_x_bounded s) (four_tnl_bounded s.tnl_bounded)).high))
+      (le_by (tc ∷ linear ∷ bend ∷ []) ((v0 :≤ # 43934) ∷ (v1 :≤ # 1696890) ∷ (v2 :≤ # 92160) ∷ []) (v0 :+ v1 :+ v2) (# 1832984) (hyp 0 ⊕ hyp 1 ⊕ hyp 2 ⊕ hyp 3) tt s.tc_high (scene_linear_bounded s).high (rw (bend_of_four_tnl x tnl) at (bend_bounded (scene_x_bounded s) (four_tnl_bounded s.tnl_bounded)).high))
 
 -- ---- scan bias
 module _ {c0 e t : ℤ} (of-c0 : Bounded c0 (pos 4096)) (of-e : Bounded e (pos 32768)) (low : pos 11166 ≤ℤ t) (high : t ≤ℤ pos 1832984) where

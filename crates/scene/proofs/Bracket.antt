@@ -94,7 +94,7 @@ module _ {n d : ℤ} {w : ℕ} (p : pos 0 <ℤ d) (e : Bracket n d w) where
 -- ---- where nothing is unsure
 pub record Sure (x linear edge : ℕ) : Type 0 where
   pub of_x : x % 65536 ≤ 65501
-  pub of-linear : linear % 4294967296 ≤ edge
+  pub of_linear : linear % 4294967296 ≤ edge
 
 or_left : (a b : Bool) → (a || b) ≡ false → a ≡ false
 or_left false b h = refl
@@ -107,7 +107,7 @@ or_right true b h = absurd (true≢false h)
 pub sure_by : (x linear edge : ℕ) → unsure_of x linear edge ≡ false → Sure x linear edge
 sure_by x linear edge h = record {
   of_x = ltb-false 65501 (x % 65536) (or_left (ltb 65501 (x % 65536)) (ltb edge (linear % 4294967296)) h);
-  of-linear = ltb-false edge (linear % 4294967296) (or_right (ltb 65501 (x % 65536)) (ltb edge (linear % 4294967296)) h);
+  of_linear = ltb-false edge (linear % 4294967296) (or_right (ltb 65501 (x % 65536)) (ltb edge (linear % 4294967296)) h);
 }
 
 -- ---- the greatest N that is not outside

@@ -67,13 +67,13 @@ within_guard {t = negsuc n} h g = absurd h.le
 pub record Passes (k : Constants) (count : ℕ) : Type 0 where
   pub not_negative : pos 0 ≤ℤ numerator k count
   pub not_above_lem : (pos 4 *ℤ numerator k count) ≤ℤ (pos 5 *ℤ k.d)
-  pub guard-low : pos 1 ≤ℤ temperature_of k count
-  pub guard-high : temperature_of k count ≤ℤ pos 16777215
+  pub guard_low_lem : pos 1 ≤ℤ temperature_of k count
+  pub guard_high_lem : temperature_of k count ≤ℤ pos 16777215
 
 module _ (deliver : ℤ → ℤ) where
   delivers : (k : Constants) (count : ℕ) → Passes k count → scene_of deliver k count ≡ Kelvin (kelvin (nat_abs (deliver (temperature_of k count))))
   delivers k count p =
-      sym (scene_kelvin deliver k count (at_most_fails p.not_negative) (at_most_fails p.not_above_lem) (at_most_fails p.guard-low) (at_most_fails p.guard-high))
+      sym (scene_kelvin deliver k count (at_most_fails p.not_negative) (at_most_fails p.not_above_lem) (at_most_fails p.guard_low_lem) (at_most_fails p.guard_high_lem))
 
   module _ (k : Constants) (count : ℕ) (x : Float) (e : scene_of deliver k count ≡ Kelvin x) where
     not_outside : Outside ≡ scene_of deliver k count → ⊥
@@ -99,8 +99,8 @@ module _ (deliver : ℤ → ℤ) where
     delivered_passes = record {
       not_negative = lt_z_false negative_fails;
       not_above_lem = lt_z_false above_fails;
-      guard-low = lt_z_false below_one_fails;
-      guard-high = lt_z_false above_greatest_fails;
+      guard_low_lem = lt_z_false below_one_fails;
+      guard_high_lem = lt_z_false above_greatest_fails;
     }
 
   -- both directions

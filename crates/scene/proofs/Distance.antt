@@ -24,9 +24,9 @@ pub record SceneRoundings (tc rise tnl d n x linear bend : ℤ) : Type 0 where
   pub n_low : pos 0 ≤ℤ n
   pub n_high : (pos 4 *ℤ n) ≤ℤ (pos 5 *ℤ d)
   pub tnl_bounded : Bounded tnl (pos 8192)
-  pub x-near : WithinHalf (pos 65536 *ℤ n) d x
-  pub linear-near : WithinHalf (n *ℤ rise) d linear
-  pub bend-near : WithinHalf (pos 4 *ℤ x *ℤ (pos 65536 -ℤ x) *ℤ tnl) (pos 4294967296) bend
+  pub x_near : WithinHalf (pos 65536 *ℤ n) d x
+  pub linear_near : WithinHalf (n *ℤ rise) d linear
+  pub bend_near : WithinHalf (pos 4 *ℤ x *ℤ (pos 65536 -ℤ x) *ℤ tnl) (pos 4294967296) bend
 
 above_bounded : {z : ℤ} → pos 0 <ℤ z → Bounded z z
 above_bounded h = bounded_by_itself (below_at_most h)
@@ -54,13 +54,13 @@ with_rise tc rise tnl d n = (tc *ℤ (d *ℤ d) +ℤ n *ℤ d *ℤ rise +ℤ pos
 
 module _ {tc rise tnl d n x linear bend : ℤ} (s : SceneRoundings tc rise tnl d n x linear bend) where
   x_high : x ≤ℤ pos 81920
-  x_high = within_half_at_most s.d_above s.x-near (pos 81920) (le_by (n ∷ d ∷ []) ((# 4 :* v0 :≤ # 5 :* v1) ∷ []) (# 65536 :* v0) (# 81920 :* v1) (hyp 0 ⊕ nat 16384 ⊗ hyp 1) tt s.n_high)
+  x_high = within_half_at_most s.d_above s.x_near (pos 81920) (le_by (n ∷ d ∷ []) ((# 4 :* v0 :≤ # 5 :* v1) ∷ []) (# 65536 :* v0) (# 81920 :* v1) (hyp 0 ⊕ nat 16384 ⊗ hyp 1) tt s.n_high)
 
   -- 1 - N / D - X / 65,536 is within 3/2
   both_x_bounded : Bounded (pos 65536 *ℤ d -ℤ pos 65536 *ℤ n -ℤ x *ℤ d) (pos 98304 *ℤ d)
   both_x_bounded = record {
     low = (le_by (d ∷ n ∷ x ∷ []) ((# 0 :< v0) ∷ (# 4 :* v1 :≤ # 5 :* v0) ∷ (v2 :≤ # 81920) ∷ []) (opp (# 98304 :* v0)) (# 65536 :* v0 :- # 65536 :* v1 :- v2 :* v0) (hyp 0 ⊕ nat 16384 ⊗ hyp 2 ⊕ hyp 3 ⊕ hyp 1 ⊗ hyp 3) tt s.d_above s.n_high x_high);
-    high = (le_by (d ∷ n ∷ x ∷ []) ((# 0 :< v0) ∷ (# 0 :≤ v1) ∷ (opp v0 :≤ # 2 :* (v0 :* v2 :- # 65536 :* v1)) ∷ []) (# 65536 :* v0 :- # 65536 :* v1 :- v2 :* v0) (# 98304 :* v0) (nat 2 ⊗ hyp 0 ⊕ nat 65535 ⊗ hyp 1 ⊕ nat 262144 ⊗ hyp 2 ⊕ hyp 3) tt s.d_above s.n_low s.x-near.twice.low);
+    high = (le_by (d ∷ n ∷ x ∷ []) ((# 0 :< v0) ∷ (# 0 :≤ v1) ∷ (opp v0 :≤ # 2 :* (v0 :* v2 :- # 65536 :* v1)) ∷ []) (# 65536 :* v0 :- # 65536 :* v1 :- v2 :* v0) (# 98304 :* v0) (nat 2 ⊗ hyp 0 ⊕ nat 65535 ⊗ hyp 1 ⊕ nat 262144 ⊗ hyp 2 ⊕ hyp 3) tt s.d_above s.n_low s.x_near.twice.low);
   }
 
   distance_over_d : Distance (pos 11 /ᶠ pos 8) (tc +ℤ linear +ℤ bend) (with_rise tc rise tnl d n)
@@ -70,9 +70,9 @@ module _ {tc rise tnl d n x linear bend : ℤ} (s : SceneRoundings tc rise tnl d
         (ring (tc ∷ tnl ∷ d ∷ n ∷ rise ∷ x ∷ linear ∷ bend ∷ []) (# 4294967296 :* # 4 :* (# 2 :* (v2 :* v6 :- v3 :* v4)) :* v2 :+ v2 :* v2 :* # 4 :* (# 2 :* (# 4294967296 :* v7 :- # 4 :* v5 :* (# 65536 :- v5) :* v1)) :+ # 16 :* (# 2 :* (v2 :* v5 :- # 65536 :* v3)) :* (# 65536 :* v2 :- # 65536 :* v3 :- v5 :* v2) :* v1) (# 4294967296 :* (# 8 :* ((v0 :+ v6 :+ v7) :* (v2 :* v2) :- (v0 :* (v2 :* v2) :+ v3 :* v2 :* v4 :+ # 4 :* v3 :* (v2 :- v3) :* v1)))) tt)
         (ring (d ∷ []) (# 4294967296 :* # 4 :* v0 :* v0 :+ v0 :* v0 :* # 4 :* # 4294967296 :+ # 16 :* v0 :* (# 98304 :* v0) :* # 8192) (# 4294967296 :* (# 11 :* (v0 :* v0))) tt)
         (bounded_sum (bounded_sum
-        (bounded_product (bounded_product (bounded_product (number_bounded 4294967296) (number_bounded 4)) s.linear-near.twice) (above_bounded s.d_above))
-        (bounded_product (bounded_product (bounded_product (above_bounded s.d_above) (above_bounded s.d_above)) (number_bounded 4)) s.bend-near.twice))
-        (bounded_product (bounded_product (bounded_product (number_bounded 16) s.x-near.twice) both_x_bounded) s.tnl_bounded)));
+        (bounded_product (bounded_product (bounded_product (number_bounded 4294967296) (number_bounded 4)) s.linear_near.twice) (above_bounded s.d_above))
+        (bounded_product (bounded_product (bounded_product (above_bounded s.d_above) (above_bounded s.d_above)) (number_bounded 4)) s.bend_near.twice))
+        (bounded_product (bounded_product (bounded_product (number_bounded 16) s.x_near.twice) both_x_bounded) s.tnl_bounded)));
   }
 
   -- T is within 11/8 of Tc + x rise + 4x(1 - x) TNL
@@ -114,8 +114,8 @@ module _ (b : ℤ) {weights weighted tc tnl d n mean x linear bend : ℤ} (w : p
       (distance_weaker (lt_z_yes tt) (lt_z_yes tt) (le_z_yes tt) distance_over_weights)
 
   -- ---- TNL unrounded, a fraction: 2 + 5/4 × 1/2
-  sixteen-x-bounded : Bounded (pos 16 *ℤ n *ℤ (d -ℤ n)) (pos 5 *ℤ (d *ℤ d))
-  sixteen-x-bounded = record {
+  sixteen_x_bounded : Bounded (pos 16 *ℤ n *ℤ (d -ℤ n)) (pos 5 *ℤ (d *ℤ d))
+  sixteen_x_bounded = record {
     low = (le_by (d ∷ n ∷ []) ((# 0 :≤ v1) ∷ (# 4 :* v1 :≤ # 5 :* v0) ∷ (# 0 :< v0) ∷ []) (opp (# 5 :* (v0 :* v0))) (# 16 :* v1 :* (v0 :- v1)) (nat 5 ⊗ hyp 0 ⊕ nat 24 ⊗ hyp 1 ⊗ hyp 2 ⊕ hyp 2 ⊗ hyp 2) tt s.n_low s.n_high s.d_above);
     high = (le_by (d ∷ n ∷ []) ((# 0 :< v0) ∷ []) (# 16 :* v1 :* (v0 :- v1)) (# 5 :* (v0 :* v0)) (hyp 0 ⊕ nat 2 ⊗ hyp 1 ⊕ nat 4 ⊗ sqr (v0 :- # 2 :* v1) ⊕ hyp 1 ⊗ hyp 1) tt s.d_above);
   }
@@ -127,17 +127,17 @@ module _ (b : ℤ) {weights weighted tc tnl d n mean x linear bend : ℤ} (w : p
       (same_fraction (weights ∷ weighted ∷ b ∷ tc ∷ d ∷ n ∷ numerator ∷ denominator ∷ [])
       ((v3 :* (v0 :* v4 :* v4 :* v7) :+ v5 :* v4 :* (v1 :+ (v2 :- v3) :* v0) :* v7 :+ # 4 :* v5 :* (v4 :- v5) :* v6 :* v0) /ᵉ (v0 :* v4 :* v4 :* v7))
       (Eᵉ (v5 /ᵉ v4) (v1 /ᵉ v0 +ᵉ wholeᵉ v2) (wholeᵉ v3) (v6 /ᵉ v7)) tt)
-      over-denominator
+      over_denominator
     where
-      over-denominator : Distance (pos 21 /ᶠ pos 8) (tc +ℤ linear +ℤ bend)
+      over_denominator : Distance (pos 21 /ᶠ pos 8) (tc +ℤ linear +ℤ bend)
           ((tc *ℤ (weights *ℤ d *ℤ d *ℤ denominator) +ℤ n *ℤ d *ℤ (weighted +ℤ (b -ℤ tc) *ℤ weights) *ℤ denominator +ℤ pos 4 *ℤ n *ℤ (d -ℤ n) *ℤ numerator *ℤ weights)
           /ᶠ (weights *ℤ d *ℤ d *ℤ denominator))
-      over-denominator = record {
+      over_denominator = record {
         den_above = product_above (product_above (product_above w s.d_above) s.d_above) p;
         apart = bounded_equal
             (ring (weights ∷ weighted ∷ b ∷ tc ∷ tnl ∷ d ∷ n ∷ (tc +ℤ linear +ℤ bend) ∷ numerator ∷ denominator ∷ []) (# 8 :* (v7 :* (v0 :* v5 :* v5) :- (v3 :* (v0 :* v5 :* v5) :+ v6 :* v5 :* (v1 :+ (v2 :- v3) :* v0) :+ # 4 :* v6 :* (v5 :- v6) :* v4 :* v0)) :* v9 :+ # 16 :* v6 :* (v5 :- v6) :* v0 :* (# 2 :* (v9 :* v4 :- v8))) (# 8 :* (v7 :* (v0 :* v5 :* v5 :* v9) :- (v3 :* (v0 :* v5 :* v5 :* v9) :+ v6 :* v5 :* (v1 :+ (v2 :- v3) :* v0) :* v9 :+ # 4 :* v6 :* (v5 :- v6) :* v8 :* v0))) tt)
             (ring (weights ∷ d ∷ denominator ∷ []) (# 16 :* (v0 :* v1 :* v1) :* v2 :+ # 5 :* (v1 :* v1) :* v0 :* v2) (# 21 :* (v0 :* v1 :* v1 :* v2)) tt)
-            (bounded_sum (bounded_product distance_over_weights.apart (above_bounded p)) (bounded_product (bounded_product sixteen-x-bounded (above_bounded w)) t.twice));
+            (bounded_sum (bounded_product distance_over_weights.apart (above_bounded p)) (bounded_product (bounded_product sixteen_x_bounded (above_bounded w)) t.twice));
       }
 
 -- ---- on the definitions
@@ -148,9 +148,9 @@ roundings_of tc rise tnl {d} {n} p low high t = record {
   n_low = low;
   n_high = high;
   tnl_bounded = t;
-  x-near = r_within_half (pos 65536 *ℤ n) p;
-  linear-near = r_within_half (n *ℤ rise) p;
-  bend-near = r_within_half (pos 4 *ℤ X n d *ℤ (pos 65536 -ℤ X n d) *ℤ tnl) (lt_z_yes tt);
+  x_near = r_within_half (pos 65536 *ℤ n) p;
+  linear_near = r_within_half (n *ℤ rise) p;
+  bend_near = r_within_half (pos 4 *ℤ X n d *ℤ (pos 65536 -ℤ X n d) *ℤ tnl) (lt_z_yes tt);
 }
 
 -- T is within 21/8 units of E, with Tw = r(weighted, weights) + b and TNL within a half of a fraction

@@ -40,7 +40,7 @@ module _ (Aw Ac C tc : ℤ) (tw tnl : Fraction) {Ww Wc : ℤ} (warm : pos 0 <ℤ
   x_same : Equal (whole (pos 1) +ᶠ (whole C -ᶠ mean_count Aw Ww) ÷ᶠ (mean_count Aw Ww -ᶠ mean_count Ac Wc)) (N Ww Wc Ac C /ᶠ (Aw *ℤ Wc -ℤ Ac *ℤ Ww))
   x_same = record {
     left_above = product_above one_above (product_above (product_above one_above mean_above) counts_apart);
-    right-above = d;
+    right_above = d;
     same = counts_identity Aw Ww Ac Wc C;
   }
 
@@ -49,12 +49,12 @@ module _ (Aw Ac C tc : ℤ) (tw tnl : Fraction) {Ww Wc : ℤ} (warm : pos 0 <ℤ
 
   -- T_lin is Tc + x(Tw - Tc)
   pub linear_same : Equal (linear (mean_count Aw Ww) (mean_count Ac Wc) tw (whole tc) (whole C)) (whole tc +ᶠ N Ww Wc Ac C /ᶠ (Aw *ℤ Wc -ℤ Ac *ℤ Ww) *ᶠ (tw -ᶠ whole tc))
-  linear_same = same_trans by-relative (same_sum (same_itself {a = whole tc} one_above) (same_product x_same rise_same))
+  linear_same = same_trans by_relative (same_sum (same_itself {a = whole tc} one_above) (same_product x_same rise_same))
     where
-      by-relative : Equal (linear (mean_count Aw Ww) (mean_count Ac Wc) tw (whole tc) (whole C)) (whole tc +ᶠ (whole (pos 1) +ᶠ (whole C -ᶠ mean_count Aw Ww) ÷ᶠ (mean_count Aw Ww -ᶠ mean_count Ac Wc)) *ᶠ (tw -ᶠ whole tc))
-      by-relative = record {
+      by_relative : Equal (linear (mean_count Aw Ww) (mean_count Ac Wc) tw (whole tc) (whole C)) (whole tc +ᶠ (whole (pos 1) +ᶠ (whole C -ᶠ mean_count Aw Ww) ÷ᶠ (mean_count Aw Ww -ᶠ mean_count Ac Wc)) *ᶠ (tw -ᶠ whole tc))
+      by_relative = record {
         left_above = product_above tw-above (product_above (product_above one_above mean_above) (product_above counts_apart (product_above tw-above one_above)));
-        right-above = product_above one_above (product_above x_same.left_above rise_same.left_above);
+        right_above = product_above one_above (product_above x_same.left_above rise_same.left_above);
         same = linear_identity (whole C -ᶠ mean_count Aw Ww) (mean_count Aw Ww -ᶠ mean_count Ac Wc) tw (whole tc);
       }
 
@@ -62,7 +62,7 @@ module _ (Aw Ac C tc : ℤ) (tw tnl : Fraction) {Ww Wc : ℤ} (warm : pos 0 <ℤ
   pub relative_same : Equal (relative (mean_count Aw Ww) (mean_count Ac Wc) tw (whole tc) (whole C)) (N Ww Wc Ac C /ᶠ (Aw *ℤ Wc -ℤ Ac *ℤ Ww))
   relative_same =
       let divided = same_divided (tw -ᶠ whole tc) rise_above (same_difference linear_same (same_itself {a = whole tc} one_above)) in
-      same_trans divided (record { left_above = divided.right-above; right-above = d; same = relative_identity (N Ww Wc Ac C /ᶠ (Aw *ℤ Wc -ℤ Ac *ℤ Ww)) (tw -ᶠ whole tc) (whole tc) })
+      same_trans divided (record { left_above = divided.right_above; right_above = d; same = relative_identity (N Ww Wc Ac C /ᶠ (Aw *ℤ Wc -ℤ Ac *ℤ Ww)) (tw -ᶠ whole tc) (whole tc) })
 
   quadratic_same : Equal (quadratic (relative (mean_count Aw Ww) (mean_count Ac Wc) tw (whole tc) (whole C)) tnl) (quadratic (N Ww Wc Ac C /ᶠ (Aw *ℤ Wc -ℤ Ac *ℤ Ww)) tnl)
   quadratic_same =

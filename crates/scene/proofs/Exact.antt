@@ -57,7 +57,7 @@ value_units : (x : Float) (t : ℕ) → HasValue x false t 4096 → Equal (units
 value_units nan t h = absurd h
 value_units (inf s) t h = absurd h
 value_units (fin true m e) t h = absurd (false≢true (sym h.0))
-value_units (fin false m e) t h = record { left_above = natural_below (down_pos e); right-above = lt_z_yes tt; same = times_one _ ∙ ap pos h.1 }
+value_units (fin false m e) t h = record { left_above = natural_below (down_pos e); right_above = lt_z_yes tt; same = times_one _ ∙ ap pos h.1 }
 
 pub units_of_kelvin : (t : ℕ) → 1 ≤ t → t ≤ 16777215 → Equal (units_of (kelvin t)) (whole (pos t))
 units_of_kelvin t low high = value_units (kelvin t) t (kelvin_exact t low high)

@@ -15,7 +15,7 @@ use Rattle.scene.specs.Scene.{numerator}
 use Rattle.scene.specs.Ranges.{ConstantsRange}
 use Rattle.scene.specs.Steps.{placed}
 use Rattle.scene.specs.Temperature.{guard_fails}
-use Rattle.scene.specs.BeforeBias.{justT, outsideMark, guardMark, before_bias}
+use Rattle.scene.specs.BeforeBias.{just_t, outside_mark, guard_mark, before_bias}
 use Rattle.scene.proofs.Ranges.{SceneRange, scene_range}
 use Rattle.scene.proofs.BiasRange.{temperature_low, temperature_high}
 use Rattle.scene.proofs.Delivered.{temperature_of}
@@ -44,14 +44,14 @@ pub record NotOutside (k : Constants) (count : ℕ) : Type 0 where
   pub high : (pos 4 *ℤ numerator k count) ≤ℤ (pos 5 *ℤ k.d)
 
 -- what a delivered scene says of its count, by the outcomes of its tests
-tests_say : (negative above fails : Bool) (x t : ℤ) → cond (negative || above) outsideMark (cond fails guardMark (justT x)) ≡ justT t
+tests_say : (negative above fails : Bool) (x t : ℤ) → cond (negative || above) outside_mark (cond fails guard_mark (just_t x)) ≡ just_t t
     → (negative ≡ false) × (above ≡ false) × (fails ≡ false) × (x ≡ t)
 tests_say true above fails x t e = let clash : ◌≡◌ {A = ℕ} 0 1 = cc in absurd (omega arith)
 tests_say false true fails x t e = let clash : ◌≡◌ {A = ℕ} 0 1 = cc in absurd (omega arith)
 tests_say false false true x t e = let clash : ◌≡◌ {A = ℕ} 0 1 = cc in absurd (omega arith)
 tests_say false false false x t e = (refl, refl, refl, cc)
 
-module _ (k : Constants) (count : ℕ) (t : ℤ) (e : before_bias k count ≡ justT t) where
+module _ (k : Constants) (count : ℕ) (t : ℤ) (e : before_bias k count ≡ just_t t) where
   abbrev says : (lt_z (numerator k count) (pos 0) ≡ false) × (lt_z (pos 5 *ℤ k.d) (pos 4 *ℤ numerator k count) ≡ false) × (guard_fails (temperature_of k count) ≡ false) × (temperature_of k count ≡ t)
   says = tests_say (lt_z (numerator k count) (pos 0)) (lt_z (pos 5 *ℤ k.d) (pos 4 *ℤ numerator k count)) (guard_fails (temperature_of k count)) (temperature_of k count) t e
 

@@ -58,9 +58,9 @@ bend_of_four_tnl x tnl = ap (λ z. r z (pos 4294967296)) (ring (x ∷ tnl ∷ []
 -- ---- X and the linear part of a scene that is not outside
 pub record SceneRange (tc rise tnl d n : ℤ) : Type 0 where
   pub tc_low : pos 11166 ≤ℤ tc
-  pub tc-high : tc ≤ℤ pos 43934
-  pub rise-low : pos 825032 ≤ℤ rise
-  pub rise-high : rise ≤ℤ pos 1357512
+  pub tc_high : tc ≤ℤ pos 43934
+  pub rise_low : pos 825032 ≤ℤ rise
+  pub rise_high : rise ≤ℤ pos 1357512
   pub tnl_bounded : Bounded tnl (pos 8192)
   pub d_above : pos 0 <ℤ d
   pub n_low : pos 0 ≤ℤ n
@@ -68,27 +68,27 @@ pub record SceneRange (tc rise tnl d n : ℤ) : Type 0 where
 
 module _ {tc rise tnl d n : ℤ} (s : SceneRange tc rise tnl d n) where
   pub scene_rise_not_negative : pos 0 ≤ℤ rise
-  scene_rise_not_negative = (le_by (rise ∷ []) ((# 825032 :≤ v0) ∷ []) (# 0) v0 (hyp 0 ⊕ hyp 1) tt s.rise-low)
+  scene_rise_not_negative = (le_by (rise ∷ []) ((# 825032 :≤ v0) ∷ []) (# 0) v0 (hyp 0 ⊕ hyp 1) tt s.rise_low)
 
   pub scene_x_bounded : Bounded (X n d) (pos 81920)
   scene_x_bounded = r_bounded (pos 65536 *ℤ n) s.d_above (bounded_not_negative (le_by (n ∷ []) ((# 0 :≤ v0) ∷ []) (# 0) (# 65536 :* v0) (hyp 0 ⊕ nat 65536 ⊗ hyp 1) tt s.n_low) (le_by (n ∷ d ∷ []) ((# 4 :* v0 :≤ # 5 :* v1) ∷ []) (# 65536 :* v0) (# 81920 :* v1) (hyp 0 ⊕ nat 16384 ⊗ hyp 1) tt s.n_high))
 
   pub scene_linear_bounded : Bounded (r (n *ℤ rise) d) (pos 1696890)
-  scene_linear_bounded = r_bounded (n *ℤ rise) s.d_above (bounded_not_negative (product_not_negative s.n_low scene_rise_not_negative) (le_by (n ∷ d ∷ rise ∷ []) ((# 0 :< v1) ∷ (# 0 :≤ v2) ∷ (v2 :≤ # 1357512) ∷ (# 4 :* v0 :≤ # 5 :* v1) ∷ []) (v0 :* v2) (# 1696890 :* v1) (nat 4 ⊗ hyp 0 ⊕ nat 5 ⊗ hyp 3 ⊕ nat 5 ⊗ hyp 1 ⊗ hyp 3 ⊕ hyp 2 ⊗ hyp 4) tt s.d_above scene_rise_not_negative s.rise-high s.n_high))
+  scene_linear_bounded = r_bounded (n *ℤ rise) s.d_above (bounded_not_negative (product_not_negative s.n_low scene_rise_not_negative) (le_by (n ∷ d ∷ rise ∷ []) ((# 0 :< v1) ∷ (# 0 :≤ v2) ∷ (v2 :≤ # 1357512) ∷ (# 4 :* v0 :≤ # 5 :* v1) ∷ []) (v0 :* v2) (# 1696890 :* v1) (nat 4 ⊗ hyp 0 ⊕ nat 5 ⊗ hyp 3 ⊕ nat 5 ⊗ hyp 1 ⊗ hyp 3 ⊕ hyp 2 ⊗ hyp 4) tt s.d_above scene_rise_not_negative s.rise_high s.n_high))
 
 -- ---- the constants
 module _ {k : Constants} (h : ConstantsRange k) where
   pub tc_bounded : Bounded k.tc (pos 43934)
-  tc_bounded = bounded_not_negative (le_by (k.tc ∷ []) ((# 11166 :≤ v0) ∷ []) (# 0) v0 (hyp 0 ⊕ hyp 1) tt h.tc_low) h.tc-high
+  tc_bounded = bounded_not_negative (le_by (k.tc ∷ []) ((# 11166 :≤ v0) ∷ []) (# 0) v0 (hyp 0 ⊕ hyp 1) tt h.tc_low) h.tc_high
 
   pub rise_not_negative : pos 0 ≤ℤ k.rise
-  rise_not_negative = (le_by (k.rise ∷ []) ((# 825032 :≤ v0) ∷ []) (# 0) v0 (hyp 0 ⊕ hyp 1) tt h.rise-low)
+  rise_not_negative = (le_by (k.rise ∷ []) ((# 825032 :≤ v0) ∷ []) (# 0) v0 (hyp 0 ⊕ hyp 1) tt h.rise_low)
 
   pub rise_bounded : Bounded k.rise (pos 1357512)
-  rise_bounded = bounded_not_negative rise_not_negative h.rise-high
+  rise_bounded = bounded_not_negative rise_not_negative h.rise_high
 
   pub d_bounded : Bounded k.d (pos 51136960500)
-  d_bounded = bounded_not_negative (below_at_most h.d-low) h.d-high
+  d_bounded = bounded_not_negative (below_at_most h.d_low) h.d_high
 
   pub d_fits : SFits w64 k.d
   d_fits = bounded_fits d_bounded (lit< tt)
@@ -108,7 +108,7 @@ module _ {k : Constants} (h : ConstantsRange k) where
   pub start_bounded : Bounded (k.tc -ℤ pos 1048576) (pos 1037410)
   start_bounded = record {
     low = (le_by (k.tc ∷ []) ((# 11166 :≤ v0) ∷ []) (opp (# 1037410)) (v0 :- # 1048576) (hyp 0 ⊕ hyp 1) tt h.tc_low);
-    high = (le_by (k.tc ∷ []) ((v0 :≤ # 43934) ∷ []) (v0 :- # 1048576) (# 1037410) (hyp 0 ⊕ hyp 1) tt h.tc-high);
+    high = (le_by (k.tc ∷ []) ((v0 :≤ # 43934) ∷ []) (v0 :- # 1048576) (# 1037410) (hyp 0 ⊕ hyp 1) tt h.tc_high);
   }
 
   pub start_fits : SFits w64 (k.tc -ℤ pos 1048576)
@@ -129,10 +129,10 @@ module _ {k : Constants} (h : ConstantsRange k) where
     twice_reads_back = ap (λ (s : Scale). to_z w64 (of_z w64 s.twice)) e ∙ reads_back twice_d_fits
 
   pub slope_bounded : Bounded k.slope (pos 780300)
-  slope_bounded = bounded_not_negative h.slope-low h.slope-high
+  slope_bounded = bounded_not_negative h.slope_low h.slope_high
 
   pub base_bounded : Bounded k.base (pos 51136960500)
-  base_bounded = bounded_not_negative h.base-low h.base-high
+  base_bounded = bounded_not_negative h.base_low h.base_high
 
   -- ---- N at every count
   module _ {count : ℕ} (c : count ≤ 65535) where
@@ -141,12 +141,12 @@ module _ {k : Constants} (h : ConstantsRange k) where
 
     pub numerator_bounded : Bounded (numerator k count) (pos 51136960500)
     numerator_bounded = record {
-      low = (le_by ((k.slope *ℤ pos count) ∷ k.base ∷ []) ((# 0 :≤ v0) ∷ (v1 :≤ # 51136960500) ∷ []) (opp (# 51136960500)) (v0 :- v1) (hyp 0 ⊕ hyp 1 ⊕ hyp 2) tt slope-count-not-negative h.base-high);
-      high = (le_by ((k.slope *ℤ pos count) ∷ k.base ∷ []) ((v0 :≤ # 51136960500) ∷ (# 0 :≤ v1) ∷ []) (v0 :- v1) (# 51136960500) (hyp 0 ⊕ hyp 1 ⊕ hyp 2) tt slope_count_bounded.high h.base-low);
+      low = (le_by ((k.slope *ℤ pos count) ∷ k.base ∷ []) ((# 0 :≤ v0) ∷ (v1 :≤ # 51136960500) ∷ []) (opp (# 51136960500)) (v0 :- v1) (hyp 0 ⊕ hyp 1 ⊕ hyp 2) tt slope_count_not_negative h.base_high);
+      high = (le_by ((k.slope *ℤ pos count) ∷ k.base ∷ []) ((v0 :≤ # 51136960500) ∷ (# 0 :≤ v1) ∷ []) (v0 :- v1) (# 51136960500) (hyp 0 ⊕ hyp 1 ⊕ hyp 2) tt slope_count_bounded.high h.base_low);
     }
       where
-        slope-count-not-negative : pos 0 ≤ℤ (k.slope *ℤ pos count)
-        slope-count-not-negative = product_not_negative h.slope-low (natural_not_negative count)
+        slope_count_not_negative : pos 0 ≤ℤ (k.slope *ℤ pos count)
+        slope_count_not_negative = product_not_negative h.slope_low (natural_not_negative count)
 
     pub four_n_bounded : Bounded (pos 4 *ℤ numerator k count) (pos 204547842000)
     four_n_bounded = bounded_product (number_bounded 4) numerator_bounded
@@ -157,7 +157,7 @@ module _ {k : Constants} (h : ConstantsRange k) where
   -- ---- the parts of T, where N is not negative and 4N is at most 5D
   module _ {n : ℤ} (low : pos 0 ≤ℤ n) (high : (pos 4 *ℤ n) ≤ℤ (pos 5 *ℤ k.d)) where
     pub n_bounded : Bounded n (pos 63921200625)
-    n_bounded = bounded_not_negative low (le_by (n ∷ k.d ∷ []) ((# 4 :* v0 :≤ # 5 :* v1) ∷ (v1 :≤ # 51136960500) ∷ []) v0 (# 63921200625) (nat 4 ⊗ hyp 0 ⊕ hyp 1 ⊕ nat 5 ⊗ hyp 2) tt high h.d-high)
+    n_bounded = bounded_not_negative low (le_by (n ∷ k.d ∷ []) ((# 4 :* v0 :≤ # 5 :* v1) ∷ (v1 :≤ # 51136960500) ∷ []) v0 (# 63921200625) (nat 4 ⊗ hyp 0 ⊕ hyp 1 ⊕ nat 5 ⊗ hyp 2) tt high h.d_high)
 
     pub n_fits : SFits w64 n
     n_fits = bounded_fits n_bounded (lit< tt)
@@ -165,11 +165,11 @@ module _ {k : Constants} (h : ConstantsRange k) where
     pub scene_range : SceneRange k.tc k.rise k.tnl k.d n
     scene_range = record {
       tc_low = h.tc_low;
-      tc-high = h.tc-high;
-      rise-low = h.rise-low;
-      rise-high = h.rise-high;
+      tc_high = h.tc_high;
+      rise_low = h.rise_low;
+      rise_high = h.rise_high;
       tnl_bounded = h.tnl;
-      d_above = h.d-low;
+      d_above = h.d_low;
       n_low = low;
       n_high = high;
     }
@@ -184,9 +184,9 @@ module _ {k : Constants} (h : ConstantsRange k) where
     linear_bounded = scene_linear_bounded scene_range
 
 -- ---- T of X and the linear part, from the start
-module _ {start curve x linear : ℤ} (of-start : Bounded start (pos 1037410)) (of-curve : Bounded curve (pos 32768)) (of_x : Bounded x (pos 81920)) (of-linear : Bounded linear (pos 1696890)) where
+module _ {start curve x linear : ℤ} (of-start : Bounded start (pos 1037410)) (of-curve : Bounded curve (pos 32768)) (of_x : Bounded x (pos 81920)) (of_linear : Bounded linear (pos 1696890)) where
   pub linear_sum_bounded : Bounded (start +ℤ linear) (pos 2734300)
-  linear_sum_bounded = bounded_sum of-start of-linear
+  linear_sum_bounded = bounded_sum of-start of_linear
 
   pub units_bounded : Bounded (start +ℤ linear +ℤ (bend_of x curve +ℤ pos 1048576)) (pos 3875036)
   units_bounded = bounded_sum linear_sum_bounded (raised_bend_bounded of_x of-curve)

@@ -59,12 +59,12 @@ module _ {tc rise tnl d n m : ℤ} (one : SceneRange tc rise tnl d n) (other : S
   unfolding temperature
   temperature_rises =
       let x-order = x_rises n m one.d_above step in
-      (lt_by (d ∷ (m -ℤ n) ∷ rise ∷ tc ∷ (r (n *ℤ rise) d) ∷ (r (m *ℤ rise) d) ∷ (X n d) ∷ (X m d) ∷ (bend (scene_x_bounded one) (scene_x_bounded other) one.tnl_bounded x-order (X n d)) ∷ (bend (scene_x_bounded one) (scene_x_bounded other) one.tnl_bounded x-order (X m d)) ∷ []) ((# 0 :< v0) ∷ (# 0 :< v1) ∷ (# 825032 :≤ v2) ∷ (v1 :* v2 :- v0 :≤ v0 :* (v5 :- v4)) ∷ (# 0 :- # 7516192768 :* (v7 :- v6) :- # 4294967296 :≤ # 4294967296 :* (v9 :- v8)) ∷ (v0 :* (v7 :- v6) :≤ # 65536 :* v1 :+ v0) ∷ (v0 :≤ # 65535 :* v1) ∷ []) (v3 :+ v4 :+ v8) (v3 :+ v5 :+ v9) (nat 4294967296 ⊗ hyp 0 ⊗ hyp 1 ⊕ nat 1995389192372224 ⊗ hyp 2 ⊕ nat 4294967296 ⊗ hyp 2 ⊗ hyp 3 ⊕ nat 4294967296 ⊗ hyp 3 ⊕ nat 4294967296 ⊗ hyp 4 ⊕ hyp 1 ⊗ hyp 5 ⊕ hyp 5 ⊕ nat 7516192768 ⊗ hyp 6 ⊕ nat 16106127360 ⊗ hyp 7 ⊕ nat 4294967296 ⊗ hyp 0) tt one.d_above grows one.rise-low (linear_step n m one.d_above step rise) (bend_step (scene_x_bounded one) (scene_x_bounded other) one.tnl_bounded x-order) (x_step n m one.d_above step) step)
+      (lt_by (d ∷ (m -ℤ n) ∷ rise ∷ tc ∷ (r (n *ℤ rise) d) ∷ (r (m *ℤ rise) d) ∷ (X n d) ∷ (X m d) ∷ (bend (scene_x_bounded one) (scene_x_bounded other) one.tnl_bounded x-order (X n d)) ∷ (bend (scene_x_bounded one) (scene_x_bounded other) one.tnl_bounded x-order (X m d)) ∷ []) ((# 0 :< v0) ∷ (# 0 :< v1) ∷ (# 825032 :≤ v2) ∷ (v1 :* v2 :- v0 :≤ v0 :* (v5 :- v4)) ∷ (# 0 :- # 7516192768 :* (v7 :- v6) :- # 4294967296 :≤ # 4294967296 :* (v9 :- v8)) ∷ (v0 :* (v7 :- v6) :≤ # 65536 :* v1 :+ v0) ∷ (v0 :≤ # 65535 :* v1) ∷ []) (v3 :+ v4 :+ v8) (v3 :+ v5 :+ v9) (nat 4294967296 ⊗ hyp 0 ⊗ hyp 1 ⊕ nat 1995389192372224 ⊗ hyp 2 ⊕ nat 4294967296 ⊗ hyp 2 ⊗ hyp 3 ⊕ nat 4294967296 ⊗ hyp 3 ⊕ nat 4294967296 ⊗ hyp 4 ⊕ hyp 1 ⊗ hyp 5 ⊕ hyp 5 ⊕ nat 7516192768 ⊗ hyp 6 ⊕ nat 16106127360 ⊗ hyp 7 ⊕ nat 4294967296 ⊗ hyp 0) tt one.d_above grows one.rise_low (linear_step n m one.d_above step rise) (bend_step (scene_x_bounded one) (scene_x_bounded other) one.tnl_bounded x-order) (x_step n m one.d_above step) step)
 
 -- ---- N of a higher count
 module _ {k : Constants} (h : ConstantsRange k) {count higher : ℕ} (more : count < higher) where
   numerator_grows : k.d ≤ℤ (pos 65535 *ℤ (numerator k higher -ℤ numerator k count))
-  numerator_grows = (le_by (k.d ∷ k.slope ∷ k.base ∷ (pos count) ∷ (pos higher) ∷ []) ((v0 :≤ # 65535 :* v1) ∷ (# 0 :≤ v1) ∷ (v3 :< v4) ∷ []) v0 (# 65535 :* (v1 :* v4 :- v2 :- (v1 :* v3 :- v2))) (hyp 0 ⊕ hyp 1 ⊕ nat 65535 ⊗ hyp 2 ⊗ hyp 3) tt h.reach h.slope-low (natural_below more))
+  numerator_grows = (le_by (k.d ∷ k.slope ∷ k.base ∷ (pos count) ∷ (pos higher) ∷ []) ((v0 :≤ # 65535 :* v1) ∷ (# 0 :≤ v1) ∷ (v3 :< v4) ∷ []) v0 (# 65535 :* (v1 :* v4 :- v2 :- (v1 :* v3 :- v2))) (hyp 0 ⊕ hyp 1 ⊕ nat 65535 ⊗ hyp 2 ⊗ hyp 3) tt h.reach h.slope_low (natural_below more))
 
   -- of two counts that are not outside the higher has the higher T
   pub temperature_rises_with_count : pos 0 ≤ℤ numerator k count → (pos 4 *ℤ numerator k count) ≤ℤ (pos 5 *ℤ k.d)
@@ -73,4 +73,4 @@ module _ {k : Constants} (h : ConstantsRange k) {count higher : ℕ} (more : cou
 
   -- N does not fall with the count
   pub numerator_rises : numerator k count ≤ℤ numerator k higher
-  numerator_rises = (le_by (k.slope ∷ k.base ∷ (pos count) ∷ (pos higher) ∷ []) ((# 0 :≤ v0) ∷ (v2 :< v3) ∷ []) (v0 :* v2 :- v1) (v0 :* v3 :- v1) (hyp 0 ⊕ hyp 1 ⊕ hyp 1 ⊗ hyp 2) tt h.slope-low (natural_below more))
+  numerator_rises = (le_by (k.slope ∷ k.base ∷ (pos count) ∷ (pos higher) ∷ []) ((# 0 :≤ v0) ∷ (v2 :< v3) ∷ []) (v0 :* v2 :- v1) (v0 :* v3 :- v1) (hyp 0 ⊕ hyp 1 ⊕ hyp 1 ⊗ hyp 2) tt h.slope_low (natural_below more))

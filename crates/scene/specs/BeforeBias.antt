@@ -6,14 +6,14 @@ use Rattle.scene.specs.Scene.{numerator}
 
 -- T, in units, or a mark
 pub data TOrMark : Type 0 where
-  justT : ℤ → TOrMark
-  flaggedMark : TOrMark
-  outsideMark : TOrMark
-  guardMark : TOrMark
+  just_t : ℤ → TOrMark
+  flagged_mark : TOrMark
+  outside_mark : TOrMark
+  guard_mark : TOrMark
 
 -- by its tests, in a channel with flag 0
 abbrev pub by_tests : (N D T : ℤ) → TOrMark
-by_tests n d t = cond (outside n d) outsideMark (cond (guard_fails t) guardMark (justT t))
+by_tests n d t = cond (outside n d) outside_mark (cond (guard_fails t) guard_mark (just_t t))
 
 -- of a count
 abbrev pub before_bias : Constants → ℕ → TOrMark

@@ -48,17 +48,17 @@ module _ (reached low high : ℕ) (numbers : List ℕ) where
   holds_at : (i : ℕ) → NoneOr low high (number i) → (reached ≤ i → number i ≡ 0) → holds_at_lem i ≡ true
   holds_at i range past = by_place (dec_lt i reached)
     where
-      none-holds : number i ≡ 0 → holds_at_lem i ≡ true
-      none-holds none = rw (eq-eqb (number i) 0 none)
+      none_holds : number i ≡ 0 → holds_at_lem i ≡ true
+      none_holds none = rw (eq-eqb (number i) 0 none)
 
       or_true : (b : Bool) → (b || true) ≡ true
       or_true true = refl
       or_true false = refl
 
       by_place : Dec (i < reached) → holds_at_lem i ≡ true
-      by_place (no behind) = none-holds (past (omega arith))
+      by_place (no behind) = none_holds (past (omega arith))
       by_place (yes inside) =
-          ⊎_elim none-holds
+          ⊎_elim none_holds
           (λ between. rw (lt-ltb i reached inside, le-leb low (number i) between.0, le-leb (number i) high between.1) (or_true (eqb (number i) 0)))
           range
 

@@ -47,7 +47,7 @@ reached_at_most true last = by_place (dec_lt last ages)
 -- the ages that are reached move on with the number: by the gap, or all are reached, or the gap leaves none
 pub data Moved (before gap after : ℕ) : Type 0 where
   by_gap : before + gap ≡ after → Moved before gap after
-  all-reached : after ≡ ages → Moved before gap after
+  all_reached : after ≡ ages → Moved before gap after
   none_left : gap ≡ ages → Moved before gap after
 
 reached_moves : (any : Bool) (last number : ℕ) → (any ≡ true → last < number) → Moved (ages_reached any last) (gap_between any last number) (ages_reached true number)
@@ -55,7 +55,7 @@ reached_moves false last number above = none_left refl
 reached_moves true last number above = by_places (dec_lt number ages) (dec_lt (number - last) ages)
   where
     by_places : Dec (number < ages) → Dec (number - last < ages) → Moved (ages_reached true last) (gap_between true last number) (ages_reached true number)
-    by_places (no late) near = all-reached (rw (le-ltb number ages (omega arith)))
+    by_places (no late) near = all_reached (rw (le-ltb number ages (omega arith)))
     by_places (yes early) (no far) = none_left (rw (le-ltb (number - last) ages (omega arith)))
     by_places (yes early) (yes near) =
         let less : last < number = above refl in
@@ -72,15 +72,15 @@ module _ (n before gap after : ℕ) (row old : List ℕ) (wide : length row ≡ 
     -- an old number that the shift brings to place i
     old_is_none : Moved before gap after → n * gap ≤ i → i < n * ages → get_or old (i - n * gap) 0 ≡ 0
     old_is_none (by_gap sum) start inside = only (i - n * gap) (omega (arith, mul-add n before gap, ap (λ (k : ℕ). n * k) sum))
-    old_is_none (all-reached all) start inside = absurd (omega (arith, ap (λ (k : ℕ). n * k) all))
+    old_is_none (all_reached all) start inside = absurd (omega (arith, ap (λ (k : ℕ). n * k) all))
     old_is_none (none_left all) start inside = absurd (omega (arith, ap (λ (k : ℕ). n * k) all))
 
     moved_is_none : Moved before gap after → i < n * ages → moved_at old row (n * gap) i ≡ 0
-    moved_is_none moved inside = by-start (dec_lt i (n * gap))
+    moved_is_none moved inside = by_start (dec_lt i (n * gap))
       where
-        by-start : Dec (i < n * gap) → moved_at old row (n * gap) i ≡ 0
-        by-start (yes missing) = rw (le-ltb i (length row) behind_row, lt-ltb i (n * gap) missing)
-        by-start (no start) = rw (le-ltb i (length row) behind_row, le-ltb i (n * gap) (omega arith)) (old_is_none moved (omega arith) inside)
+        by_start : Dec (i < n * gap) → moved_at old row (n * gap) i ≡ 0
+        by_start (yes missing) = rw (le-ltb i (length row) behind_row, lt-ltb i (n * gap) missing)
+        by_start (no start) = rw (le-ltb i (length row) behind_row, le-ltb i (n * gap) (omega arith)) (old_is_none moved (omega arith) inside)
 
     pub shifted_is_none : Moved before gap after → get_or (shifted gap row old) i 0 ≡ 0
     shifted_is_none moved = by_end (dec_lt i (length old))

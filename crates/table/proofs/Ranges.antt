@@ -60,9 +60,9 @@ thermometer_in_range t holds =
       r0 = in_between r0.0;
       coefficients = record {
         alpha_low = alpha-between.0;
-        alpha-high = alpha-between.1;
-        delta-high = leb-true t.delta 2000000 delta.0;
-        beta-high = leb-true t.beta 500000 delta.1;
+        alpha_high = alpha-between.1;
+        delta_high = leb-true t.delta 2000000 delta.0;
+        beta_high = leb-true t.beta 500000 delta.1;
       };
     }
 
@@ -104,20 +104,20 @@ values_in_range s holds =
     let pairsTest : ℕ → Bool = λ c. every (pair_inside (s.channel c).pair) pairs in
     let part = each_of_all (leasts_inside s ∷ thermometer_limits_inside s ∷ every thermometerTest thermometers ∷ every channelTest channels ∷ every pairsTest channels ∷ sums_inside s ∷ []) holds in
     let least = each_of_all (from_to 1 100 s.percent_thermometers ∷ from_to 1 100 (s.percent Warm) ∷ from_to 1 100 (s.percent Cold) ∷ from_to 1 (size_of Kav) (s.least Kav) ∷ from_to 1 (size_of Wg) (s.least Wg) ∷ []) (part 0) in
-    let limit = each_of_all (resistance_inside s.rPam ∷ size_to 245760 s.tLow ∷ size_to 245760 s.tUpp ∷ le_z s.tLow s.tUpp ∷ leb s.dT 491520 ∷ []) (part 1) in
+    let limit = each_of_all (resistance_inside s.r_pam ∷ size_to 245760 s.t_low ∷ size_to 245760 s.t_upp ∷ le_z s.t_low s.t_upp ∷ leb s.d_t 491520 ∷ []) (part 1) in
     let total = each_of_all (from_to 1 255 (sum s.w s.ages) ∷ from_to 1 255 (sum s.v s.ages) ∷ from_to 1 255 (weight_of s Kav) ∷ from_to 1 255 (weight_of s Wg) ∷ []) (part 5) in
     record {
       percent_thermometers = in_between (least 0);
       percent = each_side (λ side. Between 1 100 (s.percent side)) (in_between (least 1)) (in_between (least 2));
       least = each_target (λ target. Between 1 (size_of target) (s.least target)) (in_between (least 3)) (in_between (least 4));
-      rPam = in_between (limit 0);
-      tLow = bounded (limit 1);
-      tUpp = bounded (limit 2);
-      tOrder = le_z_true (limit 3);
-      dT = leb-true _ _ (limit 4);
+      r_pam = in_between (limit 0);
+      t_low = bounded (limit 1);
+      t_upp = bounded (limit 2);
+      t_order = le_z_true (limit 3);
+      d_t = leb-true _ _ (limit 4);
       thermometer = λ i below. thermometer_in_range (s.thermometer i) (each_of_every thermometerTest thermometers i (part 2) below);
       channel = λ c below. channel_in_range (s.channel c) (each_of_every channelTest channels c (part 3) below) (each_of_every pairsTest channels c (part 4) below);
-      sumW = in_between (total 0);
-      sumV = in_between (total 1);
-      sumP = each_target (λ target. Between 1 255 (weight_of s target)) (in_between (total 2)) (in_between (total 3));
+      sum_w = in_between (total 0);
+      sum_v = in_between (total 1);
+      sum_p = each_target (λ target. Between 1 255 (weight_of s target)) (in_between (total 2)) (in_between (total 3));
     }

@@ -22,11 +22,11 @@ leasts_inside s =
     all_hold (from_to 1 100 s.percent_thermometers ∷ from_to 1 100 (s.percent Warm) ∷ from_to 1 100 (s.percent Cold)
     ∷ from_to 1 (size_of Kav) (s.least Kav) ∷ from_to 1 (size_of Wg) (s.least Wg) ∷ [])
 
--- R_PAM, T_low and T_upp -245,760..245,760 with low not above upp, dT 0..491,520
+-- R_PAM, T_low and T_upp -245,760..245,760 with low not above upp, d_t 0..491,520
 unfoldable pub thermometer_limits_inside : Settings → Bool
 thermometer_limits_inside s =
-    all_hold (resistance_inside s.rPam
-    ∷ size_to 245760 s.tLow ∷ size_to 245760 s.tUpp ∷ le_z s.tLow s.tUpp ∷ leb s.dT 491520 ∷ [])
+    all_hold (resistance_inside s.r_pam
+    ∷ size_to 245760 s.t_low ∷ size_to 245760 s.t_upp ∷ le_z s.t_low s.t_upp ∷ leb s.d_t 491520 ∷ [])
 
 abbrev pub thermometer_inside : Thermometer → Bool
 thermometer_inside t = coefficients_inside t.r0 t.alpha t.delta t.beta

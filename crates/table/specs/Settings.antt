@@ -50,10 +50,10 @@ pub record Settings : Type 0 where
   pub percent : Side → ℕ
   -- least good thermometers
   pub least : Target → ℕ
-  pub rPam : ℕ
-  pub tLow : ℤ
-  pub tUpp : ℤ
-  pub dT : ℕ
+  pub r_pam : ℕ
+  pub t_low : ℤ
+  pub t_upp : ℤ
+  pub d_t : ℕ
   pub thermometer : ℕ → Thermometer
   pub channel : ℕ → ChannelSettings
 
@@ -89,10 +89,10 @@ settings_of ages table =
       percent_thermometers = get_or table (start + 2 * ages) 0;
       percent = λ side. get_or table (start + 2 * ages + 1 + side_place side) 0;
       least = λ target. get_or table (start + 2 * ages + 3 + target_place target) 0;
-      rPam = u32_at table (start + 2 * ages + 5);
-      tLow = i32_at table (start + 2 * ages + 9);
-      tUpp = i32_at table (start + 2 * ages + 13);
-      dT = u32_at table (start + 2 * ages + 17);
+      r_pam = u32_at table (start + 2 * ages + 5);
+      t_low = i32_at table (start + 2 * ages + 9);
+      t_upp = i32_at table (start + 2 * ages + 13);
+      d_t = u32_at table (start + 2 * ages + 17);
       thermometer = λ i. thermometer_at table (value_start (table_layout ages) 1 + thermometer_row * i);
       channel = λ c. channel_at table (value_start (table_layout ages) 2 + channel_row * c) (value_start (table_layout ages) 3 + shelf_pairs_row * c);
     }

@@ -34,13 +34,13 @@ pub record SettingsRange (s : Settings) : Type 0 where
   pub percent_thermometers : Between 1 100 s.percent_thermometers
   pub percent : (side : Side) → Between 1 100 (s.percent side)
   pub least : (target : Target) → Between 1 (size_of target) (s.least target)
-  pub rPam : Between 1000 4000000 s.rPam
-  pub tLow : Bounded s.tLow (pos 245760)
-  pub tUpp : Bounded s.tUpp (pos 245760)
-  pub tOrder : s.tLow ≤ℤ s.tUpp
-  pub dT : s.dT ≤ 491520
+  pub r_pam : Between 1000 4000000 s.r_pam
+  pub t_low : Bounded s.t_low (pos 245760)
+  pub t_upp : Bounded s.t_upp (pos 245760)
+  pub t_order : s.t_low ≤ℤ s.t_upp
+  pub d_t : s.d_t ≤ 491520
   pub thermometer : (i : ℕ) → i < thermometers → ThermometerRange (s.thermometer i)
   pub channel : (c : ℕ) → c < channels → ChannelRange (s.channel c)
-  pub sumW : Between 1 255 (sum s.w s.ages)
-  pub sumV : Between 1 255 (sum s.v s.ages)
-  pub sumP : (target : Target) → Between 1 255 (weight_of s target)
+  pub sum_w : Between 1 255 (sum s.w s.ages)
+  pub sum_v : Between 1 255 (sum s.v s.ages)
+  pub sum_p : (target : Target) → Between 1 255 (weight_of s target)

@@ -215,28 +215,28 @@ fn leasts_inside(table: &[u8]) -> bool
 
 pub fn r_pam(table: &[u8]) -> u32
     requires { length table.now ≡ table_size }
-    ensures { result ≡ (settings_of ages table.now).rPam }
+    ensures { result ≡ (settings_of ages table.now).r_pam }
 {
     fields::u32_at(table, R_PAM_AT)
 }
 
 pub fn t_low(table: &[u8]) -> i64
     requires { length table.now ≡ table_size }
-    ensures { result ≡ (settings_of ages table.now).tLow }
+    ensures { result ≡ (settings_of ages table.now).t_low }
 {
     fields::i32_at(table, T_LOW_AT)
 }
 
 pub fn t_upp(table: &[u8]) -> i64
     requires { length table.now ≡ table_size }
-    ensures { result ≡ (settings_of ages table.now).tUpp }
+    ensures { result ≡ (settings_of ages table.now).t_upp }
 {
     fields::i32_at(table, T_UPP_AT)
 }
 
 pub fn d_t(table: &[u8]) -> u32
     requires { length table.now ≡ table_size }
-    ensures { result ≡ (settings_of ages table.now).dT }
+    ensures { result ≡ (settings_of ages table.now).d_t }
 {
     fields::u32_at(table, D_T_AT)
 }

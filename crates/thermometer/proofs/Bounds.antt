@@ -59,17 +59,17 @@ module _ {t : ℤ} (range : InRange t) where
   pub 256t_bounded : Bounded (pos 256 *ℤ t) (pos 62914560)
   256t_bounded = bounded_product (number_bounded 256) t_bounded
 
-  module _ {delta : ℕ} (delta-high : delta ≤ 2000000) where
+  module _ {delta : ℕ} (delta_high : delta ≤ 2000000) where
     pub delta_q_bounded : Bounded (pos delta *ℤ q t) (pos 322122547200000000)
-    delta_q_bounded = bounded_product (natural_bounded delta-high) q_bounded
+    delta_q_bounded = bounded_product (natural_bounded delta_high) q_bounded
 
     pub s1_bounded : Bounded (s1 delta t) (pos 2013266)
     unfolding s1
     s1_bounded = floor_at_most 2013266 (pos delta *ℤ q t) (pos 160000000000) tt tt delta_q_bounded
 
-  module _ {beta : ℕ} (beta-high : beta ≤ 500000) where
+  module _ {beta : ℕ} (beta_high : beta ≤ 500000) where
     pub beta_h_bounded : Bounded (pos beta *ℤ h t) (pos 2899103500000)
-    beta_h_bounded = bounded_product (natural_bounded beta-high) h_bounded
+    beta_h_bounded = bounded_product (natural_bounded beta_high) h_bounded
 
     pub s2_bounded : Bounded (s2 beta t) (pos 181194)
     unfolding s2
@@ -78,13 +78,13 @@ module _ {t : ℤ} (range : InRange t) where
 
   module _ {alpha delta beta : ℕ} (admissible : Admissible alpha delta beta) where
     pub 256t_less_s1_bounded : Bounded (pos 256 *ℤ t -ℤ s1 delta t) (pos 64927826)
-    256t_less_s1_bounded = bounded_difference 256t_bounded (s1_bounded admissible.delta-high)
+    256t_less_s1_bounded = bounded_difference 256t_bounded (s1_bounded admissible.delta_high)
 
     pub bracket_bounded : Bounded (bracket delta beta t) (pos 65109020)
-    bracket_bounded = bounded_difference 256t_less_s1_bounded (s2_bounded admissible.beta-high)
+    bracket_bounded = bounded_difference 256t_less_s1_bounded (s2_bounded admissible.beta_high)
 
     pub alpha_bracket_bounded : Bounded (pos alpha *ℤ bracket delta beta t) (pos 325545100000000)
-    alpha_bracket_bounded = bounded_product (natural_bounded admissible.alpha-high) bracket_bounded
+    alpha_bracket_bounded = bounded_product (natural_bounded admissible.alpha_high) bracket_bounded
 
     pub F_bounded : Bounded (F alpha delta beta t) (pos 21985938)
     unfolding F
@@ -116,10 +116,10 @@ module _ {t : ℤ} (range : InRange t) where
   256t_fits = fits (256t_bounded range) tt
 
   pub delta_q_fits : {delta : ℕ} → delta ≤ 2000000 → SFits w64 (pos delta *ℤ q t)
-  delta_q_fits delta-high = fits (delta_q_bounded range delta-high) tt
+  delta_q_fits delta_high = fits (delta_q_bounded range delta_high) tt
 
   pub beta_h_fits : {beta : ℕ} → beta ≤ 500000 → SFits w64 (pos beta *ℤ h t)
-  beta_h_fits beta-high = fits (beta_h_bounded range beta-high) tt
+  beta_h_fits beta_high = fits (beta_h_bounded range beta_high) tt
 
   module _ {alpha delta beta : ℕ} (admissible : Admissible alpha delta beta) where
     pub 256t_less_s1_fits : SFits w64 (pos 256 *ℤ t -ℤ s1 delta t)

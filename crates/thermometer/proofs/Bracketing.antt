@@ -37,11 +37,11 @@ module _ {alpha delta beta : ℕ} (admissible : Admissible alpha delta beta) {m 
 
   -- t + 1 is in the range, and not reached
   exact_next_inside : InRange (t +ℤ pos 1) → (part *ℤ m) ≤ℤ exact (t +ℤ pos 1)
-  exact_next_inside range = by-reach (at_most_or_above (F alpha delta beta (t +ℤ pos 1)) m)
+  exact_next_inside range = by_reach (at_most_or_above (F alpha delta beta (t +ℤ pos 1)) m)
     where
-      by-reach : (F alpha delta beta (t +ℤ pos 1) ≤ℤ m) ⊎ (m <ℤ F alpha delta beta (t +ℤ pos 1)) → (part *ℤ m) ≤ℤ exact (t +ℤ pos 1)
-      by-reach (inl reached) = absurd (clash_by (t ∷ []) ((v0 :+ # 1 :≤ v0) ∷ []) (hyp 0) tt (answer.most (t +ℤ pos 1) range reached))
-      by-reach (inr past) = (le_by ((exact (t +ℤ pos 1)) ∷ (F alpha delta beta (t +ℤ pos 1)) ∷ m ∷ []) ((# 6 :* (# 1677721600000000000000000000000 :* v1) :≤ # 6 :* v0 :+ # 1677721600000000000000000000000) ∷ (v2 :< v1) ∷ []) (# 1677721600000000000000000000000 :* v2) v0 (nat 6 ⊗ hyp 0 ⊕ hyp 1 ⊕ nat 10066329600000000000000000000000 ⊗ hyp 2) tt (F_high admissible range) past)
+      by_reach : (F alpha delta beta (t +ℤ pos 1) ≤ℤ m) ⊎ (m <ℤ F alpha delta beta (t +ℤ pos 1)) → (part *ℤ m) ≤ℤ exact (t +ℤ pos 1)
+      by_reach (inl reached) = absurd (clash_by (t ∷ []) ((v0 :+ # 1 :≤ v0) ∷ []) (hyp 0) tt (answer.most (t +ℤ pos 1) range reached))
+      by_reach (inr past) = (le_by ((exact (t +ℤ pos 1)) ∷ (F alpha delta beta (t +ℤ pos 1)) ∷ m ∷ []) ((# 6 :* (# 1677721600000000000000000000000 :* v1) :≤ # 6 :* v0 :+ # 1677721600000000000000000000000) ∷ (v2 :< v1) ∷ []) (# 1677721600000000000000000000000 :* v2) v0 (nat 6 ⊗ hyp 0 ⊕ hyp 1 ⊕ nat 10066329600000000000000000000000 ⊗ hyp 2) tt (F_high admissible range) past)
 
   -- t is the last of the range, and M is not above its F
   exact_next_outside : m ≤ℤ F alpha delta beta t → (part *ℤ m) ≤ℤ exact (t +ℤ pos 1)
@@ -63,13 +63,13 @@ module _ {alpha delta beta : ℕ} (admissible : Admissible alpha delta beta) {m 
 -- ---- the measured ratio n / d: M is the floor of 2^24 n / d
 pub answers_bracketed : AnswersBracketed
 unfolding M
-answers_bracketed rPam r0 alpha delta beta pam offset count t e =
-    let met = reading_units_answered rPam r0 alpha delta beta pam offset count e in
-    let n = pos rPam *ℤ (pos count -ℤ pos offset) in
+answers_bracketed r_pam r0 alpha delta beta pam offset count t e =
+    let met = reading_units_answered r_pam r0 alpha delta beta pam offset count e in
+    let n = pos r_pam *ℤ (pos count -ℤ pos offset) in
     let d = (pos pam -ℤ pos offset) *ℤ pos r0 in
-    let m = M rPam r0 pam offset count in
-    let d_above : pos 0 <ℤ d = product_above met.pam-above met.r0_above in
+    let m = M r_pam r0 pam offset count in
+    let d_above : pos 0 <ℤ d = product_above met.pam_above met.r0_above in
     record {
-      below = below_same_left (equation_is alpha delta beta (t -ℤ pos 1)) (record { left_above = lt_z_yes tt; right-above = d_above; below = (lt_by ((exact_f alpha delta beta (t -ℤ pos 1)) ∷ d ∷ n ∷ m ∷ []) ((# 0 :< v1) ∷ (v0 :< # 1677721600000000000000000000000 :* v3) ∷ (v1 :* v3 :≤ v2 :* # 16777216) ∷ []) (v0 :* v1) (v2 :* (# 1677721600000000000000000000000 :* # 16777216)) (hyp 0 ⊕ hyp 1 ⊕ hyp 2 ⊕ nat 1677721600000000000000000000000 ⊗ hyp 3 ⊕ hyp 1 ⊗ hyp 2) tt d_above (exact_before met.admissible met.greatest) (floor_low (n *ℤ one) d_above)) });
-      above = below_same_right (equation_is alpha delta beta (t +ℤ pos 2)) (record { left_above = d_above; right-above = lt_z_yes tt; below = (lt_by ((exact_f alpha delta beta (t +ℤ pos 2)) ∷ d ∷ n ∷ m ∷ []) ((# 0 :< v1) ∷ (# 1677721600000000000000000000000 :* (v3 :+ # 1) :≤ v0) ∷ (v2 :* # 16777216 :< v1 :* v3 :+ v1) ∷ []) (v2 :* (# 1677721600000000000000000000000 :* # 16777216)) (v0 :* v1) (hyp 0 ⊕ hyp 2 ⊕ nat 1677721600000000000000000000000 ⊗ hyp 3 ⊕ hyp 1 ⊗ hyp 2) tt d_above (exact_second met.admissible met.greatest met.within) (floor_high (n *ℤ one) d_above)) });
+      below = below_same_left (equation_is alpha delta beta (t -ℤ pos 1)) (record { left_above = lt_z_yes tt; right_above = d_above; below = (lt_by ((exact_f alpha delta beta (t -ℤ pos 1)) ∷ d ∷ n ∷ m ∷ []) ((# 0 :< v1) ∷ (v0 :< # 1677721600000000000000000000000 :* v3) ∷ (v1 :* v3 :≤ v2 :* # 16777216) ∷ []) (v0 :* v1) (v2 :* (# 1677721600000000000000000000000 :* # 16777216)) (hyp 0 ⊕ hyp 1 ⊕ hyp 2 ⊕ nat 1677721600000000000000000000000 ⊗ hyp 3 ⊕ hyp 1 ⊗ hyp 2) tt d_above (exact_before met.admissible met.greatest) (floor_low (n *ℤ one) d_above)) });
+      above = below_same_right (equation_is alpha delta beta (t +ℤ pos 2)) (record { left_above = d_above; right_above = lt_z_yes tt; below = (lt_by ((exact_f alpha delta beta (t +ℤ pos 2)) ∷ d ∷ n ∷ m ∷ []) ((# 0 :< v1) ∷ (# 1677721600000000000000000000000 :* (v3 :+ # 1) :≤ v0) ∷ (v2 :* # 16777216 :< v1 :* v3 :+ v1) ∷ []) (v2 :* (# 1677721600000000000000000000000 :* # 16777216)) (v0 :* v1) (hyp 0 ⊕ hyp 2 ⊕ nat 1677721600000000000000000000000 ⊗ hyp 3 ⊕ hyp 1 ⊗ hyp 2) tt d_above (exact_second met.admissible met.greatest met.within) (floor_high (n *ℤ one) d_above)) });
     }

@@ -45,7 +45,7 @@ pub equation_is : (alpha delta beta : ℕ) (t : ℤ) → Equal (equation_ratio a
 unfolding equation_ratio exact_f q
 equation_is alpha delta beta t = record {
   left_above = lt_z_yes tt;
-  right-above = lt_z_yes tt;
+  right_above = lt_z_yes tt;
   same = (ring ((pos alpha) ∷ (pos delta) ∷ (beta_at beta t) ∷ t ∷ []) ((# 1 :* # 19342813113834066795298816000000000000000000000000000000000 :+ v0 :* ((v3 :* # 167772160000000000 :- v1 :* (v3 :* # 1 :* # 1 :- # 1 :* # 409600) :* (v3 :* # 1) :* # 4096) :* # 28147497671065600000000000000 :- v2 :* (v3 :* # 1 :* # 1 :- # 1 :* # 409600) :* (v3 :* # 1 :* (v3 :* # 1) :* (v3 :* # 1)) :* # 687194767360000000000) :* # 1) :* (# 1677721600000000000000000000000 :* # 16777216)) ((# 1677721600000000000000000000000 :* # 16777216 :+ v0 :* (# 26843545600000000000000 :* (# 256 :* v3) :- # 167772160000 :* (v1 :* (v3 :* (v3 :- # 409600))) :- v2 :* (v3 :* (v3 :- # 409600) :* (v3 :* v3)))) :* # 19342813113834066795298816000000000000000000000000000000000) tt);
 }
 
@@ -84,27 +84,27 @@ record QuarticNear (s x : ℤ) : Type 0 where
 -- the test is whether t is below 0
 quartic_near_by : {beta : ℕ} {t : ℤ} → beta ≤ 500000 → InRange t → (below : Bool) → lt_z t (pos 0) ≡ below
     → QuarticNear (cond below (floor (pos beta *ℤ h t) (pos 16000000)) (pos 0)) (cond below (pos beta) (pos 0) *ℤ quartic t)
-quartic_near_by {beta} {t} beta-high range true e = record {
+quartic_near_by {beta} {t} beta_high range true e = record {
   low = (le_by ((pos beta) ∷ (h t) ∷ (quartic t) ∷ (floor (pos beta *ℤ h t) (pos 16000000)) ∷ []) ((# 0 :≤ v0) ∷ (# 16000000 :* v3 :≤ v0 :* v1) ∷ (# 1677721600000000 :* v1 :≤ v2) ∷ []) (# 26843545600000000000000 :* v3) (v0 :* v2) (hyp 0 ⊕ nat 1677721600000000 ⊗ hyp 2 ⊕ hyp 1 ⊗ hyp 3) tt (natural_not_negative beta) (floor_low (pos beta *ℤ h t) {b = pos 16000000} (lt_z_yes tt)) (staged_h_low range (lt_z_true e)));
-  high = (le_by ((pos beta) ∷ (h t) ∷ (quartic t) ∷ (floor (pos beta *ℤ h t) (pos 16000000)) ∷ []) ((# 0 :≤ v0) ∷ (v0 :≤ # 500000) ∷ (v0 :* v1 :< # 16000000 :* v3 :+ # 16000000) ∷ (v2 :≤ # 1677721600000000 :* v1 :+ # 3892314300000000) ∷ []) (# 12 :* (v0 :* v2)) (# 12 :* (# 26843545600000000000000 :* v3) :+ # 13 :* # 26843545600000000000000) (hyp 0 ⊕ nat 46707771600000000 ⊗ hyp 2 ⊕ nat 20132659200000000 ⊗ hyp 3 ⊕ nat 12 ⊗ hyp 1 ⊗ hyp 4) tt (natural_not_negative beta) (natural_at_most beta-high) (floor_high (pos beta *ℤ h t) {b = pos 16000000} (lt_z_yes tt)) (staged_h_high range (lt_z_true e)));
+  high = (le_by ((pos beta) ∷ (h t) ∷ (quartic t) ∷ (floor (pos beta *ℤ h t) (pos 16000000)) ∷ []) ((# 0 :≤ v0) ∷ (v0 :≤ # 500000) ∷ (v0 :* v1 :< # 16000000 :* v3 :+ # 16000000) ∷ (v2 :≤ # 1677721600000000 :* v1 :+ # 3892314300000000) ∷ []) (# 12 :* (v0 :* v2)) (# 12 :* (# 26843545600000000000000 :* v3) :+ # 13 :* # 26843545600000000000000) (hyp 0 ⊕ nat 46707771600000000 ⊗ hyp 2 ⊕ nat 20132659200000000 ⊗ hyp 3 ⊕ nat 12 ⊗ hyp 1 ⊗ hyp 4) tt (natural_not_negative beta) (natural_at_most beta_high) (floor_high (pos beta *ℤ h t) {b = pos 16000000} (lt_z_yes tt)) (staged_h_high range (lt_z_true e)));
 }
-quartic_near_by {beta} {t} beta-high range false e = record {
+quartic_near_by {beta} {t} beta_high range false e = record {
   low = (le_by ((quartic t) ∷ []) ([]) (# 26843545600000000000000 :* # 0) (# 0 :* v0) (hyp 0) tt);
   high = (le_by ((quartic t) ∷ []) ([]) (# 12 :* (# 0 :* v0)) (# 12 :* (# 26843545600000000000000 :* # 0) :+ # 13 :* # 26843545600000000000000) (hyp 0) tt);
 }
 
 s2_near : {beta : ℕ} {t : ℤ} → beta ≤ 500000 → InRange t → QuarticNear (s2 beta t) (beta_at beta t *ℤ quartic t)
 unfolding s2
-s2_near {beta} {t} beta-high range = quartic_near_by beta-high range (lt_z t (pos 0)) refl
+s2_near {beta} {t} beta_high range = quartic_near_by beta_high range (lt_z t (pos 0)) refl
 
 -- ---- F
 module _ {alpha delta beta : ℕ} (admissible : Admissible alpha delta beta) {t : ℤ} (range : InRange t) where
   -- all stages before alpha take at most 25/12
   pub before_alpha_low : exact_before_alpha delta (beta_at beta t) t ≤ℤ (scale *ℤ bracket delta beta t)
-  before_alpha_low = (le_by ((pos 256 *ℤ t) ∷ (pos delta *ℤ q t) ∷ (beta_at beta t *ℤ quartic t) ∷ (s1 delta t) ∷ (s2 beta t) ∷ []) ((# 26843545600000000000000 :* v3 :≤ # 167772160000 :* v1) ∷ (# 26843545600000000000000 :* v4 :≤ v2) ∷ []) (# 26843545600000000000000 :* v0 :- # 167772160000 :* v1 :- v2) (# 26843545600000000000000 :* (v0 :- v3 :- v4)) (hyp 0 ⊕ hyp 1 ⊕ hyp 2) tt (s1_low delta t) (s2_near admissible.beta-high range).low)
+  before_alpha_low = (le_by ((pos 256 *ℤ t) ∷ (pos delta *ℤ q t) ∷ (beta_at beta t *ℤ quartic t) ∷ (s1 delta t) ∷ (s2 beta t) ∷ []) ((# 26843545600000000000000 :* v3 :≤ # 167772160000 :* v1) ∷ (# 26843545600000000000000 :* v4 :≤ v2) ∷ []) (# 26843545600000000000000 :* v0 :- # 167772160000 :* v1 :- v2) (# 26843545600000000000000 :* (v0 :- v3 :- v4)) (hyp 0 ⊕ hyp 1 ⊕ hyp 2) tt (s1_low delta t) (s2_near admissible.beta_high range).low)
 
   pub before_alpha_high : (pos 12 *ℤ (scale *ℤ bracket delta beta t)) ≤ℤ (pos 12 *ℤ exact_before_alpha delta (beta_at beta t) t +ℤ pos 25 *ℤ scale)
-  before_alpha_high = (le_by ((pos 256 *ℤ t) ∷ (pos delta *ℤ q t) ∷ (beta_at beta t *ℤ quartic t) ∷ (s1 delta t) ∷ (s2 beta t) ∷ []) ((# 167772160000 :* v1 :≤ # 26843545600000000000000 :* v3 :+ # 26843545600000000000000) ∷ (# 12 :* v2 :≤ # 12 :* (# 26843545600000000000000 :* v4) :+ # 13 :* # 26843545600000000000000) ∷ []) (# 12 :* (# 26843545600000000000000 :* (v0 :- v3 :- v4))) (# 12 :* (# 26843545600000000000000 :* v0 :- # 167772160000 :* v1 :- v2) :+ # 25 :* # 26843545600000000000000) (hyp 0 ⊕ nat 12 ⊗ hyp 1 ⊕ hyp 2) tt (s1_high delta t) (s2_near admissible.beta-high range).high)
+  before_alpha_high = (le_by ((pos 256 *ℤ t) ∷ (pos delta *ℤ q t) ∷ (beta_at beta t *ℤ quartic t) ∷ (s1 delta t) ∷ (s2 beta t) ∷ []) ((# 167772160000 :* v1 :≤ # 26843545600000000000000 :* v3 :+ # 26843545600000000000000) ∷ (# 12 :* v2 :≤ # 12 :* (# 26843545600000000000000 :* v4) :+ # 13 :* # 26843545600000000000000) ∷ []) (# 12 :* (# 26843545600000000000000 :* (v0 :- v3 :- v4))) (# 12 :* (# 26843545600000000000000 :* v0 :- # 167772160000 :* v1 :- v2) :+ # 25 :* # 26843545600000000000000) (hyp 0 ⊕ nat 12 ⊗ hyp 1 ⊕ hyp 2) tt (s1_high delta t) (s2_near admissible.beta_high range).high)
 
   -- F is less than 1 below the equation
   pub F_low : exact_f alpha delta beta t <ℤ (part *ℤ (F alpha delta beta t +ℤ pos 1))
@@ -120,7 +120,7 @@ module _ {alpha delta beta : ℕ} (admissible : Admissible alpha delta beta) {t 
   F_high =
       let a = pos alpha in
       let g = bracket delta beta t in
-      (le_by (a ∷ (exact_before_alpha delta (beta_at beta t) t) ∷ g ∷ (floor (a *ℤ g) (pos 62500000)) ∷ []) ((# 0 :≤ v0) ∷ (v0 :≤ # 5000000) ∷ (# 12 :* (# 26843545600000000000000 :* v2) :≤ # 12 :* v1 :+ # 25 :* # 26843545600000000000000) ∷ (# 62500000 :* v3 :≤ v0 :* v2) ∷ []) (# 6 :* (# 1677721600000000000000000000000 :* (# 16777216 :+ v3))) (# 6 :* (# 1677721600000000000000000000000 :* # 16777216 :+ v0 :* v1) :+ # 1677721600000000000000000000000) (nat 2 ⊗ hyp 0 ⊕ nat 671088640000000000000000 ⊗ hyp 2 ⊕ nat 322122547200000000000000 ⊗ hyp 4 ⊕ hyp 1 ⊗ hyp 3) tt (natural_not_negative alpha) (natural_at_most admissible.alpha-high) before_alpha_high (floor_low (a *ℤ g) {b = pos 62500000} (lt_z_yes tt)))
+      (le_by (a ∷ (exact_before_alpha delta (beta_at beta t) t) ∷ g ∷ (floor (a *ℤ g) (pos 62500000)) ∷ []) ((# 0 :≤ v0) ∷ (v0 :≤ # 5000000) ∷ (# 12 :* (# 26843545600000000000000 :* v2) :≤ # 12 :* v1 :+ # 25 :* # 26843545600000000000000) ∷ (# 62500000 :* v3 :≤ v0 :* v2) ∷ []) (# 6 :* (# 1677721600000000000000000000000 :* (# 16777216 :+ v3))) (# 6 :* (# 1677721600000000000000000000000 :* # 16777216 :+ v0 :* v1) :+ # 1677721600000000000000000000000) (nat 2 ⊗ hyp 0 ⊕ nat 671088640000000000000000 ⊗ hyp 2 ⊕ nat 322122547200000000000000 ⊗ hyp 4 ⊕ hyp 1 ⊗ hyp 3) tt (natural_not_negative alpha) (natural_at_most admissible.alpha_high) before_alpha_high (floor_low (a *ℤ g) {b = pos 62500000} (lt_z_yes tt)))
 
   near_exact : Distance (whole (pos 2)) (F alpha delta beta t) (exact_f alpha delta beta t /ᶠ part)
   near_exact = record {

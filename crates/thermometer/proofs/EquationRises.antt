@@ -39,7 +39,7 @@ quartic_does_not_rise beta t =
 module _ (t : ℤ) (last : t ≤ℤ pos 245761) {alpha delta beta : ℕ} (admissible : Admissible alpha delta beta) where
   delta_q_rises : (pos delta *ℤ q (t +ℤ pos 1)) ≤ℤ (pos delta *ℤ q t +ℤ pos 163846000000)
   unfolding q
-  delta_q_rises = (le_by ((pos delta) ∷ t ∷ []) ((# 0 :≤ v0) ∷ (v0 :≤ # 2000000) ∷ (v1 :≤ # 245761) ∷ []) (v0 :* ((v1 :+ # 1) :* (v1 :+ # 1 :- # 409600))) (v0 :* (v1 :* (v1 :- # 409600)) :+ # 163846000000) (hyp 0 ⊕ nat 81923 ⊗ hyp 2 ⊕ nat 2 ⊗ hyp 1 ⊗ hyp 3) tt (natural_not_negative delta) (natural_at_most admissible.delta-high) last)
+  delta_q_rises = (le_by ((pos delta) ∷ t ∷ []) ((# 0 :≤ v0) ∷ (v0 :≤ # 2000000) ∷ (v1 :≤ # 245761) ∷ []) (v0 :* ((v1 :+ # 1) :* (v1 :+ # 1 :- # 409600))) (v0 :* (v1 :* (v1 :- # 409600)) :+ # 163846000000) (hyp 0 ⊕ nat 81923 ⊗ hyp 2 ⊕ nat 2 ⊗ hyp 1 ⊗ hyp 3) tt (natural_not_negative delta) (natural_at_most admissible.delta_high) last)
 
   before_alpha_rises : (exact_before_alpha delta (beta_at beta t) t +ℤ pos 254 *ℤ scale) ≤ℤ exact_before_alpha delta (beta_at beta (t +ℤ pos 1)) (t +ℤ pos 1)
   before_alpha_rises = (le_by (t ∷ (pos delta *ℤ q t) ∷ (pos delta *ℤ q (t +ℤ pos 1)) ∷ (beta_at beta t *ℤ quartic t) ∷ (beta_at beta (t +ℤ pos 1) *ℤ quartic (t +ℤ pos 1)) ∷ []) ((v2 :≤ v1 :+ # 163846000000) ∷ (v4 :≤ v3) ∷ []) (# 26843545600000000000000 :* (# 256 :* v0) :- # 167772160000 :* v1 :- v3 :+ # 254 :* # 26843545600000000000000) (# 26843545600000000000000 :* (# 256 :* (v0 :+ # 1)) :- # 167772160000 :* v2 :- v4) (hyp 0 ⊕ nat 167772160000 ⊗ hyp 1 ⊕ hyp 2) tt delta_q_rises (quartic_does_not_rise beta t))

@@ -22,18 +22,18 @@ use Rattle.thermometer.proofs.Bench.{answer_at_place}
 module _ (alpha delta beta : ℕ) where
   pub at_0 : Equal (equation_ratio alpha delta beta (pos 0)) (whole (pos 1))
   unfolding exact_f q
-  at_0 = same_trans (equation_is alpha delta beta (pos 0)) (record { left_above = lt_z_yes tt; right-above = lt_z_yes tt; same = (ring ((pos alpha) ∷ (pos delta) ∷ []) ((# 1677721600000000000000000000000 :* # 16777216 :+ v0 :* (# 26843545600000000000000 :* (# 256 :* # 0) :- # 167772160000 :* (v1 :* (# 0 :* (# 0 :- # 409600))) :- # 0 :* (# 0 :* (# 0 :- # 409600) :* (# 0 :* # 0)))) :* # 1) (# 1 :* (# 1677721600000000000000000000000 :* # 16777216)) tt) })
+  at_0 = same_trans (equation_is alpha delta beta (pos 0)) (record { left_above = lt_z_yes tt; right_above = lt_z_yes tt; same = (ring ((pos alpha) ∷ (pos delta) ∷ []) ((# 1677721600000000000000000000000 :* # 16777216 :+ v0 :* (# 26843545600000000000000 :* (# 256 :* # 0) :- # 167772160000 :* (v1 :* (# 0 :* (# 0 :- # 409600))) :- # 0 :* (# 0 :* (# 0 :- # 409600) :* (# 0 :* # 0)))) :* # 1) (# 1 :* (# 1677721600000000000000000000000 :* # 16777216)) tt) })
 
   -- 1 + 100 alpha
   pub at_100 : Equal (equation_ratio alpha delta beta (pos 409600)) (whole (pos 1) +ᶠ whole (pos 100) *ᶠ pos alpha /ᶠ pos 1000000000)
   unfolding exact_f q
-  at_100 = same_trans (equation_is alpha delta beta (pos 409600)) (record { left_above = lt_z_yes tt; right-above = lt_z_yes tt; same = (ring ((pos alpha) ∷ (pos delta) ∷ []) ((# 1677721600000000000000000000000 :* # 16777216 :+ v0 :* (# 26843545600000000000000 :* (# 256 :* # 409600) :- # 167772160000 :* (v1 :* (# 409600 :* (# 409600 :- # 409600))) :- # 0 :* (# 409600 :* (# 409600 :- # 409600) :* (# 409600 :* # 409600)))) :* # 1000000000) ((# 1 :* # 1000000000 :+ # 100 :* v0 :* # 1) :* (# 1677721600000000000000000000000 :* # 16777216)) tt) })
+  at_100 = same_trans (equation_is alpha delta beta (pos 409600)) (record { left_above = lt_z_yes tt; right_above = lt_z_yes tt; same = (ring ((pos alpha) ∷ (pos delta) ∷ []) ((# 1677721600000000000000000000000 :* # 16777216 :+ v0 :* (# 26843545600000000000000 :* (# 256 :* # 409600) :- # 167772160000 :* (v1 :* (# 409600 :* (# 409600 :- # 409600))) :- # 0 :* (# 409600 :* (# 409600 :- # 409600) :* (# 409600 :* # 409600)))) :* # 1000000000) ((# 1 :* # 1000000000 :+ # 100 :* v0 :* # 1) :* (# 1677721600000000000000000000000 :* # 16777216)) tt) })
 
   -- 1 - alpha (100 + 2 delta + 2 beta)
   pub at_minus_100 : Equal (equation_ratio alpha delta beta (neg_ℤ (pos 409600)))
       (whole (pos 1) -ᶠ pos alpha /ᶠ pos 1000000000 *ᶠ (whole (pos 100) +ᶠ (pos 2 *ℤ pos delta +ℤ pos 2 *ℤ pos beta) /ᶠ pos 1000000))
   unfolding exact_f q
-  at_minus_100 = same_trans (equation_is alpha delta beta (neg_ℤ (pos 409600))) (record { left_above = lt_z_yes tt; right-above = lt_z_yes tt; same = (ring ((pos alpha) ∷ (pos delta) ∷ (pos beta) ∷ []) ((# 1677721600000000000000000000000 :* # 16777216 :+ v0 :* (# 26843545600000000000000 :* (# 256 :* opp (# 409600)) :- # 167772160000 :* (v1 :* (opp (# 409600) :* (opp (# 409600) :- # 409600))) :- v2 :* (opp (# 409600) :* (opp (# 409600) :- # 409600) :* (opp (# 409600) :* opp (# 409600))))) :* # 1000000000000000) ((# 1 :* # 1000000000000000 :- v0 :* (# 100 :* # 1000000 :+ (# 2 :* v1 :+ # 2 :* v2) :* # 1) :* # 1) :* (# 1677721600000000000000000000000 :* # 16777216)) tt) })
+  at_minus_100 = same_trans (equation_is alpha delta beta (neg_ℤ (pos 409600))) (record { left_above = lt_z_yes tt; right_above = lt_z_yes tt; same = (ring ((pos alpha) ∷ (pos delta) ∷ (pos beta) ∷ []) ((# 1677721600000000000000000000000 :* # 16777216 :+ v0 :* (# 26843545600000000000000 :* (# 256 :* opp (# 409600)) :- # 167772160000 :* (v1 :* (opp (# 409600) :* (opp (# 409600) :- # 409600))) :- v2 :* (opp (# 409600) :* (opp (# 409600) :- # 409600) :* (opp (# 409600) :* opp (# 409600))))) :* # 1000000000000000) ((# 1 :* # 1000000000000000 :- v0 :* (# 100 :* # 1000000 :+ (# 2 :* v1 :+ # 2 :* v2) :* # 1) :* # 1) :* (# 1677721600000000000000000000000 :* # 16777216)) tt) })
 
 -- ---- the bench's thermometer: offset 0, all R 2,000,000
 -- what it reads at a PAM count and a count, and its two ratios
@@ -64,7 +64,7 @@ reads_minus_207453 = ap units (answer_at_place 38307 (pos 13431839) (omega arith
 
 pub above_at_t : Below (measured_of 20000 16012) (equation_at (neg_ℤ (pos 207453)))
 unfolding equation_ratio
-above_at_t = record { left_above = lt_z_yes tt; right-above = lt_z_yes tt; below = lt_z_yes tt }
+above_at_t = record { left_above = lt_z_yes tt; right_above = lt_z_yes tt; below = lt_z_yes tt }
 
 -- ---- t + 1 won't do for t + 2: the equation there is not above the measured ratio
 F_at_place_151840 : FAt (units_at_place 151840) ≡ pos 15268824
@@ -81,7 +81,7 @@ reads_minus_93920 = ap units (answer_at_place 151840 (pos 15268840) (omega arith
 
 pub below_at_next : Below (equation_at (neg_ℤ (pos 93919))) (measured_of 65535 59643)
 unfolding equation_ratio
-below_at_next = record { left_above = lt_z_yes tt; right-above = lt_z_yes tt; below = lt_z_yes tt }
+below_at_next = record { left_above = lt_z_yes tt; right_above = lt_z_yes tt; below = lt_z_yes tt }
 
 -- ---- the ends of the range are answered
 F_at_place_0 : FAt (units_at_place 0) ≡ pos 12808666

@@ -93,7 +93,7 @@ module _ (t : ℤ) (next : InRange (t +ℤ pos 1)) where
     unfolding s1
     s1_rises =
         floor_rise (pos 2) (pos delta *ℤ q t) (pos delta *ℤ q (t +ℤ pos 1)) (lt_z_yes tt)
-        (le_by ((pos delta) ∷ (q t) ∷ (q (t +ℤ pos 1)) ∷ []) ((# 0 :≤ v0) ∷ (v0 :≤ # 2000000) ∷ (v2 :≤ v1 :+ # 81919) ∷ []) (v0 :* v2) (v0 :* v1 :+ # 2 :* # 160000000000) (hyp 0 ⊕ nat 81919 ⊗ hyp 2 ⊕ hyp 1 ⊗ hyp 3) tt (natural_not_negative delta) (natural_at_most admissible.delta-high) q_rises)
+        (le_by ((pos delta) ∷ (q t) ∷ (q (t +ℤ pos 1)) ∷ []) ((# 0 :≤ v0) ∷ (v0 :≤ # 2000000) ∷ (v2 :≤ v1 :+ # 81919) ∷ []) (v0 :* v2) (v0 :* v1 :+ # 2 :* # 160000000000) (hyp 0 ⊕ nat 81919 ⊗ hyp 2 ⊕ hyp 1 ⊗ hyp 3) tt (natural_not_negative delta) (natural_at_most admissible.delta_high) q_rises)
 
     bracket_rises : (bracket delta beta t +ℤ pos 254) ≤ℤ bracket delta beta (t +ℤ pos 1)
     bracket_rises = (le_by (t ∷ (s1 delta t) ∷ (s2 beta t) ∷ (s1 delta (t +ℤ pos 1)) ∷ (s2 beta (t +ℤ pos 1)) ∷ []) ((v3 :≤ v1 :+ # 2) ∷ (v4 :≤ v2) ∷ []) (# 256 :* v0 :- v1 :- v2 :+ # 254) (# 256 :* (v0 :+ # 1) :- v3 :- v4) (hyp 0 ⊕ hyp 1 ⊕ hyp 2) tt s1_rises (s2_does_not_rise beta t))

@@ -149,11 +149,11 @@ module _ {alpha delta beta : ℕ} (admissible : Admissible alpha delta beta) (m 
     unfolding past_at
     enclosed_after reached =
         let past = end_or_after near (ltb 491518 near) refl in
-        record { reached_inside = inside; is_reached = reached; past-inside = past.0; all-before = past.1 }
+        record { reached_inside = inside; is_reached = reached; past_inside = past.0; all_before = past.1 }
 
     pub enclosed_before : F alpha delta beta lowest_units ≤ℤ m → m <ℤ F alpha delta beta (units_at_place (near + 1))
         → Encloses alpha delta beta m (reached_at alpha delta beta m near) (near + 1)
     unfolding reached_at
     enclosed_before low past =
         let reached = near_or_first near (le_z (F alpha delta beta (units_at_place near)) m) refl (omega arith) low in
-        record { reached_inside = reached.0; is_reached = reached.1; past-inside = omega arith; all-before = reached_before admissible (near + 1) inside past }
+        record { reached_inside = reached.0; is_reached = reached.1; past_inside = omega arith; all_before = reached_before admissible (near + 1) inside past }

@@ -8,8 +8,8 @@ use Rattle.thermometer.specs.Reading.{units, reading}
 use Rattle.thermometer.specs.Ranges.{Admissible}
 
 -- ---- equation 18 over R0: the measured ratio, R_PAM × (count - offset) / ((PAM - offset) × R0)
-abbrev pub measured_ratio : (rPam r0 pam offset count : ℕ) → Fraction
-measured_ratio rPam r0 pam offset count = (pos rPam *ℤ (pos count -ℤ pos offset)) /ᶠ ((pos pam -ℤ pos offset) *ℤ pos r0)
+abbrev pub measured_ratio : (r_pam r0 pam offset count : ℕ) → Fraction
+measured_ratio r_pam r0 pam offset count = (pos r_pam *ℤ (pos count -ℤ pos offset)) /ᶠ ((pos pam -ℤ pos offset) *ℤ pos r0)
 
 -- ---- equation 19 over R0: 1 + alpha (T - delta (T/100 - 1)(T/100) - beta (T/100 - 1)(T/100)^3), T in °C
 abbrev pub cube : Fraction → Fraction
@@ -36,8 +36,8 @@ pub record Bracketed (alpha delta beta : ℕ) (measured : Fraction) (t : ℤ) : 
 -- so it is wherever One thermometer answers t
 abbrev pub AnswersBracketed : Type 0
 AnswersBracketed =
-    (rPam r0 alpha delta beta pam offset count : ℕ) (t : ℤ) → reading rPam r0 alpha delta beta pam offset count ≡ units t
-    → Bracketed alpha delta beta (measured_ratio rPam r0 pam offset count) t
+    (r_pam r0 alpha delta beta pam offset count : ℕ) (t : ℤ) → reading r_pam r0 alpha delta beta pam offset count ≡ units t
+    → Bracketed alpha delta beta (measured_ratio r_pam r0 pam offset count) t
 
 -- ---- F(t) lies within 2 of 2^24 times the equation's ratio
 abbrev pub FNearEquation : Type 0

@@ -4,6 +4,6 @@ use Rattle.std.specs.Prelude.{ℕ, ◌≤◌}
 
 pub record Admissible (alpha delta beta : ℕ) : Type 0 where
   pub alpha_low : 3000000 ≤ alpha
-  pub alpha-high : alpha ≤ 5000000
-  pub delta-high : delta ≤ 2000000
-  pub beta-high : beta ≤ 500000
+  pub alpha_high : alpha ≤ 5000000
+  pub delta_high : delta ≤ 2000000
+  pub beta_high : beta ≤ 500000

@@ -9,19 +9,19 @@ use Rattle.thermometer.specs.Rule.{M, F, answer, lowest_units, highest_units}
 -- what One thermometer gives: t in units of °C, or the number of its refusal
 pub data Result : Type 0 where
   units : ℤ → Result
-  notRead : ℕ → Result
+  not_read : ℕ → Result
 
 -- the number of a result; 0, which is no refusal of document 01, beside a t
 abbrev pub number : Result → ℕ
 number (units t) = 0
-number (notRead n) = n
+number (not_read n) = n
 
 -- document 01's number and value for each case of the code's answer
 abbrev pub result_of : Reading → Result
 result_of (Units t) = units t
-result_of CoefficientOutside = notRead 8
-result_of PamNotAboveOffset = notRead 9
-result_of RatioOutside = notRead 10
+result_of CoefficientOutside = not_read 8
+result_of PamNotAboveOffset = not_read 9
+result_of RatioOutside = not_read 10
 
 -- ---- the ranges of R_PAM and R0 and of the coefficients (document 01, "The table")
 abbrev pub from_to : ℕ → ℕ → ℕ → Bool
@@ -36,18 +36,18 @@ coefficients_inside r0 alpha delta beta =
 
 -- 8 if R_PAM or a coefficient is outside, 9 if PAM isn't above offset, 10 if the count is below offset, M below F(-245,760) or M above
 -- F(245,760)
-abbrev pub tests : (rPam r0 alpha delta beta pam offset count : ℕ) → List Test
-tests rPam r0 alpha delta beta pam offset count =
-    let m = M rPam r0 pam offset count in
-    (8 when not (resistance_inside rPam && coefficients_inside r0 alpha delta beta))
+abbrev pub tests : (r_pam r0 alpha delta beta pam offset count : ℕ) → List Test
+tests r_pam r0 alpha delta beta pam offset count =
+    let m = M r_pam r0 pam offset count in
+    (8 when not (resistance_inside r_pam && coefficients_inside r0 alpha delta beta))
     ∷ (9 when leb pam offset)
     ∷ (10 when ltb count offset) ∷ (10 when lt_z m (F alpha delta beta lowest_units)) ∷ (10 when lt_z (F alpha delta beta highest_units) m) ∷ []
 
 -- the answer where no test applies, and else the number alone
 abbrev pub result_by : Verdict → ℤ → Result
 result_by passes t = units t
-result_by (fails n) t = notRead n
+result_by (fails n) t = not_read n
 
-unfoldable pub reading : (rPam r0 alpha delta beta pam offset count : ℕ) → Result
-reading rPam r0 alpha delta beta pam offset count =
-    result_by (first_that_applies (tests rPam r0 alpha delta beta pam offset count)) (answer alpha delta beta (M rPam r0 pam offset count))
+unfoldable pub reading : (r_pam r0 alpha delta beta pam offset count : ℕ) → Result
+reading r_pam r0 alpha delta beta pam offset count =
+    result_by (first_that_applies (tests r_pam r0 alpha delta beta pam offset count)) (answer alpha delta beta (M r_pam r0 pam offset count))

@@ -9,8 +9,8 @@ abbrev pub one : ℤ
 one = pos 16777216
 
 -- M = floor(R_PAM × (count - offset) × 2^24 / ((PAM - offset) × R0))
-unfoldable pub M : (rPam r0 pam offset count : ℕ) → ℤ
-M rPam r0 pam offset count = floor (pos rPam *ℤ (pos count -ℤ pos offset) *ℤ one) ((pos pam -ℤ pos offset) *ℤ pos r0)
+unfoldable pub M : (r_pam r0 pam offset count : ℕ) → ℤ
+M r_pam r0 pam offset count = floor (pos r_pam *ℤ (pos count -ℤ pos offset) *ℤ one) ((pos pam -ℤ pos offset) *ℤ pos r0)
 
 -- q = t(t - 409,600)
 unfoldable pub q : ℤ → ℤ

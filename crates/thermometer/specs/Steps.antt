@@ -40,5 +40,5 @@ AllReachedBefore alpha delta beta m past = (j : ℕ) → j ≤ 491520 → F alph
 pub record Encloses (alpha delta beta : ℕ) (m : ℤ) (reached past : ℕ) : Type 0 where
   pub reached_inside : reached ≤ 491520
   pub is_reached : F alpha delta beta (units_at_place reached) ≤ℤ m
-  pub past-inside : past ≤ 491521
-  pub all-before : AllReachedBefore alpha delta beta m past
+  pub past_inside : past ≤ 491521
+  pub all_before : AllReachedBefore alpha delta beta m past

@@ -5,7 +5,7 @@ use mathlib.Core.Path.{◌≡◌, refl, sym, ◌∙◌}
 use mathlib.Core.List.{List}
 use lib.ListN.{length, replicate, length-replicate}
 use Rattle.lists.specs.Build.{filled}
-use Rattle.lists.proofs.Cells.{filled_none, filled-by-put, filled_to_end}
+use Rattle.lists.proofs.Cells.{filled_none, filled_by_put, filled_to_end}
 use Rattle.fields.specs.Fields.{value_start}
 use Rattle.bias.specs.Bias.{bias_layout, pair_size}
 use Rattle.bias.specs.Pairs.{pair_at, pair_count, pairs_of}
@@ -52,7 +52,7 @@ loop_again c =
     let bytes = l.before.before.args.bytes.now in (
       omega arith,
       w.put-pair.auto.0 ∙ l.loop.invariant.1,
-      filled-by-put (numbers_at bytes) 2 (λ _. refl) (replicate (2 * pair_count) 0) l.loop.k l.loop.invariant.2 refl w.put-pair.ensures,
+      filled_by_put (numbers_at bytes) 2 (λ _. refl) (replicate (2 * pair_count) 0) l.loop.k l.loop.invariant.2 refl w.put-pair.ensures,
     )
 
 returns : tie.Need-returns invariant_loop decreases_loop

@@ -14,7 +14,7 @@ use Rattle.integers.proofs.Order.{at_most_antisym, lt_z_true, lt_z_false}
 use Rattle.integers.proofs.Certificate.{◌:≤◌, ◌:<◌, hyp, nat, ◌⊕◌, ◌⊗◌, le_by, lt_by}
 use Rattle.integers.proofs.Machine.{reads_back, result_reads_back, range_fits, fits_high, floor_fits}
 use Rattle.integers.proofs.Floor.{floor_high, rest_low}
-use Rattle.integers.proofs.Nearest.{r-when-rest, r-at-even-half, r_at_odd_half}
+use Rattle.integers.proofs.Nearest.{r_when_rest, r_at_even_half, r_at_odd_half}
 use Rattle.integers.proofs.round_small.Statement.{statement}
 use Rattle.integers.proofs.round_small.Tie as tie
 
@@ -91,7 +91,7 @@ returns : tie.Need-returns
 returns c =
     let m = c.before in
     let s = start m in
-    up_is m ∙ r-when-rest (a m) (Up (a m) (b m)) s.pre.1 (up_high s.pre) (lt_z_true (rw (rest_is m) at c.if1.true))
+    up_is m ∙ r_when_rest (a m) (Up (a m) (b m)) s.pre.1 (up_high s.pre) (lt_z_true (rw (rest_is m) at c.if1.true))
 
 -- ---- nothing is left
 module _ (c : tie.After-is-even) where
@@ -110,7 +110,7 @@ is_even_requires c κs = search rules
 returns_2 : tie.Need-returns-2
 returns_2 c =
     let e = c.before in
-    up_is (m e) ∙ r-at-even-half (a (m e)) (Up (a (m e)) (b (m e))) (start (m e)).pre.1 (nothing_left e) (sym (test_is e) ∙ c.if2.true)
+    up_is (m e) ∙ r_at_even_half (a (m e)) (Up (a (m e)) (b (m e))) (start (m e)).pre.1 (nothing_left e) (sym (test_is e) ∙ c.if2.true)
 
 sub_result : tie.Need-overflow-sub-result
 sub_result c = let k = m c.before in rw (up_is k) (one_less_fits (start k).pre)

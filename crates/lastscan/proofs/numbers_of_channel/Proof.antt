@@ -36,7 +36,7 @@ cast_t7 : tie.Need-overflow-cast-t7
 cast_t7 c = let h = c.before.before.before.before.before.before.before.before.requires in cast_fits h.tc h.tc_low (lit< tt)
 
 cast_t8 : tie.Need-overflow-cast-t8
-cast_t8 c = let h = c.before.before.before.before.before.before.before.before.before.before.requires in cast_fits h.rise h.rise-low (lit< tt)
+cast_t8 c = let h = c.before.before.before.before.before.before.before.before.before.before.requires in cast_fits h.rise h.rise_low (lit< tt)
 
 complement_of_requires : tie.Need-complement-of-requires
 complement_of_requires c κs = search rules
@@ -48,7 +48,7 @@ array_read_t15 : tie.Need-array-read-t15
 array_read_t15 c = search rules
 
 cast_t16 : tie.Need-overflow-cast-t16
-cast_t16 c = let h = c.before.before.before.before.before.before.before.before.before.before.before.before.before.before.requires in cast_fits h.slope h.slope-low (lit< tt)
+cast_t16 c = let h = c.before.before.before.before.before.before.before.before.before.before.before.before.before.before.requires in cast_fits h.slope h.slope_low (lit< tt)
 
 array_read_t19 : tie.Need-array-read-t19
 array_read_t19 c = search rules

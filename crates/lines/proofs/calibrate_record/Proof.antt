@@ -71,7 +71,7 @@ returns c =
         (omega arith, refl),
         (
           ap (answered fed.feed.result.calibrator) told ∙ step_of_feed fed,
-          fed.feed.ensures.0.buffer-is,
+          fed.feed.ensures.0.buffer_is,
           ap (λ (reply : Reply). put a.line.now 0 (error_line reply)) told ∙ ap (put a.line.now 0) (line_of_feed fed),
           fed.feed.ensures.1,
         ),
@@ -92,7 +92,7 @@ returns_2 c =
           ap₂ (λ (output errors : ℕ). record { calibrator = fed.feed.result.calibrator; output = output; errors = errors })
               (ap (λ (answer : Answer). output_size (reply_of answer)) (sym told.enum-told2.given.1)) (c.refused-line.ensures.1.0 ∙ ap length line)
               ∙ step_of_feed fed,
-          fed.feed.ensures.0.buffer-is,
+          fed.feed.ensures.0.buffer_is,
           c.refused-line.ensures.1.1 ∙ ap (put a.line.now 0) (line ∙ line_of_feed fed),
           fed.feed.ensures.1,
         ),

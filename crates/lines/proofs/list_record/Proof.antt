@@ -15,7 +15,7 @@ line_of_feed : (c : tie.After-feed)
     → let a = c.before.before.before.args in
     reply_line (reply_of c.feed.result.answer) c.feed.new.1.1.0 ≡ listed_line a.calibrator a.scan.now
 unfolding listed_line empty_product
-line_of_feed c = ap₂ reply_line c.feed.ensures.0.reply_is c.feed.ensures.0.buffer-is
+line_of_feed c = ap₂ reply_line c.feed.ensures.0.reply_is c.feed.ensures.0.buffer_is
 
 slice_aggregate_feed : tie.Need-slice-aggregate-feed
 slice_aggregate_feed c = search rules

@@ -9,7 +9,7 @@ use lib.Dec.{T}
 use lib.ListN.{length}
 use lib.Ieee.{is_nan}
 use Rattle.lists.specs.Build.{filled}
-use Rattle.lists.proofs.Cells.{filled_none, filled-by-put, filled_to_end}
+use Rattle.lists.proofs.Cells.{filled_none, filled_by_put, filled_to_end}
 use Rattle.instrument.specs.Instrument.{positions}
 use Rattle.scene.specs.declared.Scene.{Scene}
 use Rattle.scene.specs.Scene.{value, bits}
@@ -139,7 +139,7 @@ loop_again c =
           ∙ ap (with_scene l.loop.summary) (scene_is s)
           ∙ ap (λ (s : Summary). with_scene s (scenes i)) l.loop.invariant.2
           ∙ sym (summary_to_more scenes i),
-      filled-by-put bytes 4 (λ _. refl) a.out.now i l.loop.invariant.3 (ap u32_bytes in-bits) w.put-u32.ensures,
+      filled_by_put bytes 4 (λ _. refl) a.out.now i l.loop.invariant.3 (ap u32_bytes in-bits) w.put-u32.ensures,
     )
 
 same_length : tie.Need-same-length invariant_loop decreases_loop

@@ -13,7 +13,7 @@ use borrow.Author.Count.{falls}
 use Rattle.lists.specs.Build.{tabulate, filled}
 use Rattle.lists.proofs.Tabulate.{tabulated_none, filled_by_store, tabulated_to_end}
 use Rattle.lists.proofs.Put.{part_is_take, length_part, lent_part_is_put}
-use Rattle.lists.proofs.Cells.{cell_inside, filled_none, filled-by-put, filled_to_end}
+use Rattle.lists.proofs.Cells.{cell_inside, filled_none, filled_by_put, filled_to_end}
 use Rattle.instrument.specs.Instrument.{channels}
 use Rattle.record.specs.Record.{earth_size, earth_part}
 use Rattle.scene.specs.declared.Channel.{Channel}
@@ -168,7 +168,7 @@ loop_again c =
       c.before.out.given.1 ∙ l.loop.invariant.1,
       simp length-set l.loop.invariant.2,
       filled_by_store (summary_at a.t2 pairs earth) (replicate channels l.before.none.result) k t.loop-test.true l.loop.invariant.3 summary,
-      filled-by-put (bytes_at a.t2 pairs earth) stretch_size (λ n. length_channel_scenes _ _ _) a.out.now k l.loop.invariant.4 bytes
+      filled_by_put (bytes_at a.t2 pairs earth) stretch_size (λ n. length_channel_scenes _ _ _) a.out.now k l.loop.invariant.4 bytes
           (lent_part_is_put l.loop.out w.new.0 start (start + stretch_size) (ap (λ (n : ℕ). start + n) (ap length bytes ∙ length_channel_scenes (by_pairs pairs k) channel _))),
     )
 

@@ -5,7 +5,7 @@ use mathlib.Core.Path.{◌≡◌, sym, ap, subst, ◌∙◌}
 use mathlib.Core.List.{List}
 use lib.ListN.{length, get_or}
 use Rattle.lists.specs.Build.{filled}
-use Rattle.lists.proofs.Cells.{filled_none, filled-by-put, filled_to_end}
+use Rattle.lists.proofs.Cells.{filled_none, filled_by_put, filled_to_end}
 use Rattle.instrument.specs.Instrument.{channels}
 use Rattle.product.specs.declared.Summary.{Summary}
 use Rattle.product.specs.Summary.{none_delivered}
@@ -60,7 +60,7 @@ loop_again c =
     let k = l.loop.c in (
       omega arith,
       w.auto.0 ∙ l.loop.invariant.1,
-      filled-by-put (bytes_at a.t2) summary_size (λ i. length_summary_bytes _) a.out.now k
+      filled_by_put (bytes_at a.t2) summary_size (λ i. length_summary_bytes _) a.out.now k
           l.loop.invariant.2 (ap summary_bytes (summary_of a.t2 k (search rules))) w.ensures,
     )
 

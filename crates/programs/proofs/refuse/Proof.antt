@@ -2,7 +2,7 @@
 use mathlib.Core.Path.{refl}
 use Rattle.table.specs.Opening.{verdict_of}
 use Rattle.lines.specs.Lines.{opening_line}
-use Rattle.programs.specs.Steps.{of-refusal}
+use Rattle.programs.specs.Steps.{of_refusal}
 use Rattle.programs.proofs.StepLaws.{front_of_put}
 use borrow.Author.Rules.{rules}
 use Rattle.programs.proofs.refuse.Statement.{statement}
@@ -24,7 +24,7 @@ hand_over_requires : tie.Need-hand-over-requires
 hand_over_requires c κs =
     let made = c.before.before.opening-line.ensures.1 in
     let start = c.before.before.before.before in
-    of-refusal start.args.answer start.requires (front_of_put _ (opening_line (verdict_of start.args.answer)) made.0 made.1) refl
+    of_refusal start.args.answer start.requires (front_of_put _ (opening_line (verdict_of start.args.answer)) made.0 made.1) refl
 
 next_after_requires : tie.Need-next-after-requires
 next_after_requires c κs = search rules

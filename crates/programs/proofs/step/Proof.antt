@@ -14,7 +14,7 @@ use Rattle.programs.proofs.step.Tie as tie
 returns : tie.Need-returns
 returns c =
     let a = c.before.before.args in
-    (record { complete = true; turned-is = turn_with_nothing a.calibrator a.next true a.scan.now (omega arith) }, c.before.before.requires)
+    (record { complete = true; turned_is = turn_with_nothing a.calibrator a.next true a.scan.now (omega arith) }, c.before.before.requires)
 
 write_record_requires : tie.Need-write-record-requires
 write_record_requires c κs = search rules
@@ -49,7 +49,7 @@ returns_2 c =
     let a = start.args in (
       record {
         complete = complete;
-        turned-is =
+        turned_is =
             ap₂ (λ (next : Next) (after : Calibrator). record { next = next; calibrator = after }) c.next-after.ensures (ap (λ (m : Made). m.calibrator) made.0)
             ∙ turn_with_bytes a.calibrator a.next complete a.scan.now (omega arith);
       },

@@ -68,7 +68,7 @@ returns_2 : tie.Need-returns-2
 returns_2 c =
     let opened = c.before.before.«open» in
     let refuses = refuses_by_variant opened.result.answer c.before.match.keys2 in
-    rw (sym opened.ensures.0 ∙ refuses.fails-with) c.refuse.ensures
+    rw (sym opened.ensures.0 ∙ refuses.fails_with) c.refuse.ensures
 
 pub with_table_spec : {M : Type 1} → statement M
 with_table_spec =

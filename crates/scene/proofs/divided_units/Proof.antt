@@ -38,7 +38,7 @@ module _ {k : Constants} {n : ℤ} (h : ConstantsRange k) (low : pos 0 ≤ℤ n)
   n_rise_small = bounded_weaker (n_rise_bounded h low high) (le_by [] [] (# 86773796902845000) (# 2305843009213693952) (hyp 0) tt)
 
 d_small : {k : Constants} → ConstantsRange k → k.d ≤ℤ pos 2305843009213693952
-d_small {k} h = (le_by (k.d ∷ []) ((v0 :≤ # 51136960500) ∷ []) v0 (# 2305843009213693952) (hyp 0 ⊕ hyp 1) tt h.d-high)
+d_small {k} h = (le_by (k.d ∷ []) ((v0 :≤ # 51136960500) ∷ []) v0 (# 2305843009213693952) (hyp 0 ⊕ hyp 1) tt h.d_high)
 
 mul_round_small : tie.Need-overflow-mul-round-small
 mul_round_small c = let h = c.requires in rw (reads_back c.ranges.n) (scaled_fits h.0 h.2 h.3)
@@ -47,7 +47,7 @@ round_small_requires : tie.Need-round-small-requires
 round_small_requires c κs =
     let s = c.before.before in
     let h = s.requires in
-    rw (reads_back s.ranges.n, reads_back (scaled_fits h.0 h.2 h.3), reads_back (d_fits h.0), twice_reads_back h.0 h.1) (scaled_small h.0 h.2 h.3, h.0.d-low, d_small h.0, refl)
+    rw (reads_back s.ranges.n, reads_back (scaled_fits h.0 h.2 h.3), reads_back (d_fits h.0), twice_reads_back h.0 h.1) (scaled_small h.0 h.2 h.3, h.0.d_low, d_small h.0, refl)
 
 x_reads_back : (c : tie.After-round-small) → let a = c.before.before.before.args in to_z w64 (of_z w64 c.round-small.result) ≡ X a.n a.k.d
 x_reads_back c =
@@ -66,7 +66,7 @@ round_small_requires_2 : tie.Need-round-small-requires-2
 round_small_requires_2 c κs =
     let s = c.before.before.before.before.before.before.before in
     let h = s.requires in
-    rw (reads_back s.ranges.n, reads_back (rise_fits h.0), reads_back (n_rise_fits h.0 h.2 h.3), reads_back (d_fits h.0), twice_reads_back h.0 h.1) (n_rise_small h.0 h.2 h.3, h.0.d-low, d_small h.0, refl)
+    rw (reads_back s.ranges.n, reads_back (rise_fits h.0), reads_back (n_rise_fits h.0 h.2 h.3), reads_back (d_fits h.0), twice_reads_back h.0 h.1) (n_rise_small h.0 h.2 h.3, h.0.d_low, d_small h.0, refl)
 
 linear_reads_back : (c : tie.After-round-small2)
     → let a = c.before.before.before.before.before.before.before.before.args in to_z w64 (of_z w64 c.round-small2.result) ≡ r (a.n *ℤ a.k.rise) a.k.d

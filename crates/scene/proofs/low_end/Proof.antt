@@ -18,14 +18,14 @@ mul_result : tie.Need-overflow-mul-result
 mul_result c =
     let h = c.requires in
     let a = c.args in
-    rw (reads_back c.ranges.n) (subst (λ (i : ℕ). Fits w64 (nat_abs a.n * i)) (sym h.1) (low_end_fits a.n a.k.d h.0.d-low h.2 h.3))
+    rw (reads_back c.ranges.n) (subst (λ (i : ℕ). Fits w64 (nat_abs a.n * i)) (sym h.1) (low_end_fits a.n a.k.d h.0.d_low h.2 h.3))
 
 returns : tie.Need-returns
 returns c =
     let h = c.requires in
     let a = c.args in
     rw (reads_back c.ranges.n)
-    (subst (λ (i : ℕ). Bracket a.n a.k.d (nat_abs a.n * i / 2147483648)) (sym h.1) (bracket_found a.n a.k.d h.0.d-low h.2 (n_bounded h.0 h.2 h.3).high))
+    (subst (λ (i : ℕ). Bracket a.n a.k.d (nat_abs a.n * i / 2147483648)) (sym h.1) (bracket_found a.n a.k.d h.0.d_low h.2 (n_bounded h.0 h.2 h.3).high))
 
 pub low_end_spec : {M : Type 1} → statement M
 low_end_spec = tie.close (tie.spec cast_result mul_result returns)

@@ -23,13 +23,13 @@ rise_size : {k : Constants} → ConstantsRange k → nat_abs k.rise ≤ 1357512
 rise_size h = bounded_size (rise_bounded h)
 
 cast_inverse : tie.Need-overflow-cast-inverse
-cast_inverse c = let h = c.before.before.requires in rw (reads_back (d_fits h)) (unsigned_fits (below_at_most h.d-low) (d_fits h))
+cast_inverse c = let h = c.before.before.requires in rw (reads_back (d_fits h)) (unsigned_fits (below_at_most h.d_low) (d_fits h))
 
 div_inverse : tie.Need-nonzero-div-inverse
 div_inverse c =
     let h = c.before.before.requires in
     let k = c.before.before.args.k in
-    rw (reads_back (d_fits h)) (omega (arith, order, size_parts k.d, h.d-low))
+    rw (reads_back (d_fits h)) (omega (arith, order, size_parts k.d, h.d_low))
 
 cast_edge : tie.Need-overflow-cast-edge
 cast_edge c = let h = c.before.before.before.before.requires in rw (reads_back (rise_fits h)) ((unsigned_fits (rise_not_negative h) (rise_fits h)).0, record { fits = omega (arith, rise_size h) })

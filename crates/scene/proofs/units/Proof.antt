@@ -31,19 +31,19 @@ linear_at k w = w * nat_abs k.rise + 2147483647
 
 module _ {k : Constants} {n : ℤ} {w : ℕ} (h : ConstantsRange k) (high : (pos 4 *ℤ n) ≤ℤ (pos 5 *ℤ k.d)) (e : Bracket n k.d w) where
   low_end_at_most : w ≤ 5368709120
-  low_end_at_most = low_end_small h.d-low high e
+  low_end_at_most = low_end_small h.d_low high e
 
   product_at_most : w * nat_abs k.rise ≤ 7288087054909440
   product_at_most = mul-le-mul low_end_at_most (bounded_size (rise_bounded h))
 
   module _ (s : Sure (x_at w) (linear_at k w) (scale_of k).edge) where
     x_reads_back : to_z w64 (x_at w / 65536) ≡ X n k.d
-    x_reads_back = natural_reads_back (x_at w / 65536) (omega (arith, low_end_at_most)) ∙ x_nearest h.d-low e s.of_x
+    x_reads_back = natural_reads_back (x_at w / 65536) (omega (arith, low_end_at_most)) ∙ x_nearest h.d_low e s.of_x
 
     linear_reads_back : to_z w64 (linear_at k w / 4294967296) ≡ r (n *ℤ k.rise) k.d
     linear_reads_back =
         natural_reads_back (linear_at k w / 4294967296) (omega (arith, product_at_most))
-        ∙ linear_nearest h.d-low e (nat_abs k.rise) (omega (arith, s.of-linear, bounded_size (rise_bounded h)))
+        ∙ linear_nearest h.d_low e (nat_abs k.rise) (omega (arith, s.of_linear, bounded_size (rise_bounded h)))
         ∙ ap (λ z. r (n *ℤ z) k.d) (pos-nat_abs k.rise (yes_non_neg (rise_not_negative h)))
 
 low_end_requires : tie.Need-low-end-requires

@@ -12,7 +12,7 @@ use Rattle.bias.specs.Opening.{bias_opening, both_opening}
 use Rattle.bias.proofs.OpeningLaws.{both_by_table, both_by_bias, both_pass}
 use Rattle.calibrator.specs.declared.Calibrator.{Calibrator}
 use Rattle.calibrator.specs.Feeding.{fresh_of}
-use Rattle.feeds.specs.FeedList.{Lent, answer_at, buffersAt}
+use Rattle.feeds.specs.FeedList.{Lent, answer_at, buffers_at}
 use Rattle.station.specs.Calls.{fresh_under, answers_by, buffers_by}
 use Rattle.station.proofs.HandedLaws.{handed_table, handed_table_accepted, handed_bias, handed_bias_accepted}
 use borrow.Author.Rules.{rules}
@@ -27,15 +27,15 @@ module _ (table bias : List ℕ) (lent : Lent) (answers : List ℕ) where
       × (written ≡ buffers_by verdict table bias lent (length answers))
 
   refused_writes_nothing : {n : ℕ} → n ≡ number_of (both_opening table bias) → (n ≡ 0 → ⊥) → LeftBy (both_opening table bias) n answers lent.buffers
-  refused_writes_nothing = by-verdict (both_opening table bias)
+  refused_writes_nothing = by_verdict (both_opening table bias)
     where
-      by-verdict : (verdict : Verdict) → {n : ℕ} → n ≡ number_of verdict → (n ≡ 0 → ⊥) → LeftBy verdict n answers lent.buffers
-      by-verdict passes is some = absurd (some is)
-      by-verdict (fails k) is some = (is, refl, refl)
+      by_verdict : (verdict : Verdict) → {n : ℕ} → n ≡ number_of verdict → (n ≡ 0 → ⊥) → LeftBy verdict n answers lent.buffers
+      by_verdict passes is some = absurd (some is)
+      by_verdict (fails k) is some = (is, refl, refl)
 
   passed_is_fed : both_opening table bias ≡ passes → {first : Calibrator} → first ≡ fresh_under table bias → {answered written : List ℕ}
       → answered ≡ tabulate (answer_at first lent) (length answers)
-      → written ≡ buffersAt first lent (length answers)
+      → written ≡ buffers_at first lent (length answers)
       → LeftBy (both_opening table bias) 0 answered written
   passed_is_fed passed fresh {answered} {written} answers-are buffers-are =
       subst (λ (verdict : Verdict). LeftBy verdict 0 answered written) (sym passed) (refl, rw fresh at answers-are, rw fresh at buffers-are)

@@ -37,10 +37,10 @@ reads_ratio c = result_reads_back c.ratio-at.result c.ratio-at.type-inv ∙ c.ra
 loop_holds : tie.Need-loop-init invariant_loop decreases_loop
 loop_holds c =
     let ends = c.requires.1 in (
-      ends.all-before c.args.first ends.reached_inside ends.is_reached,
-      ends.past-inside,
+      ends.all_before c.args.first ends.reached_inside ends.is_reached,
+      ends.past_inside,
       rw (reads_m c) ends.is_reached,
-      rw (reads_m c) ends.all-before,
+      rw (reads_m c) ends.all_before,
     )
 
 sub_loop : tie.Need-overflow-sub-loop invariant_loop decreases_loop

@@ -23,7 +23,7 @@ record Small (rpam r0 pam offset count : ℕ) : Type 0 where
   measured : rpam * (count - offset) < 9223372036854775808
   scaled : rpam * (count - offset) * 16777216 < 9223372036854775808
   divisor : (pam - offset) * r0 < 9223372036854775808
-  divisor-above : 0 < (pam - offset) * r0
+  divisor_above : 0 < (pam - offset) * r0
   quotient : rpam * (count - offset) * 16777216 / ((pam - offset) * r0) < 9223372036854775808
 
 small : (rpam r0 pam offset count : ℕ) → rpam ≤ 4000000 → 0 < r0 → r0 ≤ 4000000 → offset < pam → pam < 65536 → count < 65536 → Small rpam r0 pam offset count
@@ -64,7 +64,7 @@ mul_result_3 : tie.Need-overflow-mul-result-3
 mul_result_3 c = omega (arith, small_at c)
 
 div_result : tie.Need-nonzero-div-result
-div_result c = (small_at c).divisor-above
+div_result c = (small_at c).divisor_above
 
 cast_result : tie.Need-overflow-cast-result
 cast_result c = small_fits _ (small_at c).quotient

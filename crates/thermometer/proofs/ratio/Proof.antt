@@ -53,10 +53,10 @@ reads_last c =
 
 -- ---- the needs
 quadratic_term_requires : tie.Need-quadratic-term-requires
-quadratic_term_requires c κs = (c.requires.0.delta-high, rw (reads_t c) c.requires.1)
+quadratic_term_requires c κs = (c.requires.0.delta_high, rw (reads_t c) c.requires.1)
 
 quartic_term_requires : tie.Need-quartic-term-requires
-quartic_term_requires c κs = let s = c.before in (s.requires.0.beta-high, rw (reads_t s) s.requires.1)
+quartic_term_requires c κs = let s = c.before in (s.requires.0.beta_high, rw (reads_t s) s.requires.1)
 
 cast_floor_div : tie.Need-overflow-cast-floor-div
 cast_floor_div c = search rules
