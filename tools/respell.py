@@ -48,9 +48,14 @@ def names():
 
 def pairs():
     declared, foreign, facts = names()
+    source = set()
+    for path in glob.glob("crates/*/src/*.rt"):
+        code = [l for l in read(path).split("\n") if not re.match(r"\s*(//|ghost use|requires|ensures)", l)]
+        source |= set(re.findall(r"\w+", "\n".join(code)))
     found = collections.OrderedDict()
     for name in declared:
-        if name in foreign:
+        # A name of the library or of src/ keeps its spelling.
+        if name in foreign or name in source:
             continue
         new = name
         if re.search(r"[a-z0-9][A-Z]", name) and name[0].islower():

@@ -31,7 +31,7 @@ abbrev pub tc_of : Corrections → ℤ
 tc_of k = pos (11166 + k.rj + k.sl)
 
 abbrev pub rise_of : Means → Corrections → ℤ
-rise_of m k = r (pos m.sum_vpt) (pos m.sum_vp) +ℤ k.b -ℤ tc_of k
+rise_of m k = r (pos m.sumVPT) (pos m.sumVP) +ℤ k.b -ℤ tc_of k
 
 -- Tw is the same for both targets
 pub rise_of_target : (target : Target) → rise_of (bench_means_lem target) bench_row_lem ≡ pos 1107656

@@ -133,7 +133,7 @@ bench_kept_lem = record { warm = replicate channels 240001; cold = replicate cha
 
 -- eight or seven thermometers with p = 1; one scan with weight 1
 abbrev pub bench_means_lem : Target → Means
-bench_means_lem target = record { sum_vp = size_of target; sum_vpt = size_of target * 1118822; Ww = 1; Aw = 240000; Wc = 1; Ac = 120000 }
+bench_means_lem target = record { sumVP = size_of target; sumVPT = size_of target * 1118822; Ww = 1; Aw = 240000; Wc = 1; Ac = 120000 }
 
 means_of_kept : (c : ℕ) → c < channels → means_of bench_settings (λ k. cond (eqb (7 + k) 7) bench_kept_lem no_scan) c ≡ bench_means_lem (target_of c)
 unfolding bench_table tabulate means_from weight_sum value_sum thermometer_weights thermometer_sum sum no_scan

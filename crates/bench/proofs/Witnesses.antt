@@ -365,7 +365,7 @@ module _ (earth : ℕ) (buffer : List ℕ) (room : product_size ≤ length buffe
   -- though their sums differ
   pub sums_differ : means_at (settings_of_fed (fed 0 (lit< tt))) (moment_of_fed (fed 0 (lit< tt))) 0 ≡ means_at (settings_of_fed (fed 15 (lit< tt))) (moment_of_fed (fed 15 (lit< tt))) 15 → ⊥
   sums_differ same =
-      let eight-is-seven : ◌≡◌ {A = ℕ} 8 7 = ap (λ (m : Means). m.sum_vp) (sym (fed_means 0 (lit< tt)) ∙ same ∙ fed_means 15 (lit< tt)) in
+      let eight-is-seven : ◌≡◌ {A = ℕ} 8 7 = ap (λ (m : Means). m.sumVP) (sym (fed_means 0 (lit< tt)) ∙ same ∙ fed_means 15 (lit< tt)) in
       omega arith
 
   -- so that every count has the same T or the same mark

@@ -217,12 +217,12 @@ with_percentages t w c = settings_with 0 (three_ages ++ three_ages ++ (t ∷ w �
     three_ages = replicate 3 1 ++ replicate (ages - 3) 0
 
 -- sums of a channel with D = Wc
-abbrev pub sums : (sum_vp Ww Wc : ℕ) → Means
-sums sum_vp Ww Wc = record { sum_vp = sum_vp; sum_vpt = 0; Ww = Ww; Aw = 1; Wc = Wc; Ac = 0 }
+abbrev pub sums : (sumVP Ww Wc : ℕ) → Means
+sums sumVP Ww Wc = record { sumVP = sumVP; sumVPT = 0; Ww = Ww; Aw = 1; Wc = Wc; Ac = 0 }
 
 -- sums that suffice, with D = Aw - Ac
 abbrev pub count_sums : Target → (Aw Ac : ℕ) → Means
-count_sums target Aw Ac = record { sum_vp = size_of target; sum_vpt = 0; Ww = 1; Aw = Aw; Wc = 1; Ac = Ac }
+count_sums target Aw Ac = record { sumVP = size_of target; sumVPT = 0; Ww = 1; Aw = Aw; Wc = 1; Ac = Ac }
 
 pub record FlagRows : Type 0 where
   -- 100 × sum is percentage × whole for each of the three; then one of the sums is 1 less
@@ -251,7 +251,7 @@ even_weights = settings_with 0 (replicate (2 * ages) 1)
 -- the sums of n scans with the counts of the bench scan
 abbrev pub sums_of_scans : ℕ → Target → Means
 sums_of_scans n target =
-    record { sum_vp = n * size_of target; sum_vpt = n * (size_of target * 1118822); Ww = n; Aw = n * 240000; Wc = n; Ac = n * 120000 }
+    record { sumVP = n * size_of target; sumVPT = n * (size_of target * 1118822); Ww = n; Aw = n * 240000; Wc = n; Ac = n * 120000 }
 
 -- the bench scan, number 7, counts at number 14 and not at 15
 pub record AgeRows : Type 0 where

@@ -225,14 +225,14 @@ module _ (s : Settings) (m : Moment) (c : ℕ) (range : SettingsRange s) (below 
   tnl_above : pos 0 <ℤ (unrounded_tnl_at s m c).den
   tnl_above = unrounded_above (range.channel c below).pair (shelf_at s m c)
 
-  weights_above : {i : ℕ} → ByTheRules s m c i → pos 0 <ℤ pos (means_at s m c).sum_vp
+  weights_above : {i : ℕ} → ByTheRules s m c i → pos 0 <ℤ pos (means_at s m c).sumVP
   weights_above {i} h = natural_below (flag_zero_weights_above range (target_of c) (means_at s m c) (rules_flag_zero s m c i h))
 
   temperature_near : {i : ℕ} → ByTheRules s m c i → Distance (pos 21 /ᶠ pos 8) (t_at s m c i) (e_at s m c i)
   temperature_near h =
       let sums = means_at s m c in
       let pairs = (range.channel c below).pair in
-      temperature_distance (Tc (s.channel c)) (tnl_at s m c) (pos sums.sum_vpt) (pos sums.sum_vp) (s.channel c).b (unrounded_tnl_at s m c) h.warm_above_cold h.not_below h.not_above
+      temperature_distance (Tc (s.channel c)) (tnl_at s m c) (pos sums.sumVPT) (pos sums.sumVP) (s.channel c).b (unrounded_tnl_at s m c) h.warm_above_cold h.not_below h.not_above
       (tnl_bounded pairs (shelf_at s m c)) (weights_above h) tnl_above (tnl_within_half pairs (shelf_at s m c))
 
 pub distance_before_bias : DistanceBeforeBias
@@ -295,12 +295,12 @@ module _ (s : Settings) (bias : List ℕ) (m : Moment) (c i : ℕ) (range : Sett
   near_e h = near_of_distance (exactly h) (biased_distance (c0_in (bias_part bias c) i) (e_bounded pair) (lt_z_yes tt) (temperature_near s m c range below h))
 
   -- E by the equations
-  rise_above : (h : ByTheRules s m c i) → pos 0 <ℤ (unrounded_tw (pos sums.sum_vpt) (pos sums.sum_vp) (s.channel c).b -ᶠ whole (Tc (s.channel c))).num
+  rise_above : (h : ByTheRules s m c i) → pos 0 <ℤ (unrounded_tw (pos sums.sumVPT) (pos sums.sumVP) (s.channel c).b -ᶠ whole (Tc (s.channel c))).num
   rise_above h =
       let row = range.channel c below in
-      let least : least_kelvin * sums.sum_vp ≤ sums.sum_vpt = omega (arith, (mean_at s m c below).weighted_low) in
+      let least : least_kelvin * sums.sumVP ≤ sums.sumVPT = omega (arith, (mean_at s m c below).weighted_low) in
       let cold : 11166 + (s.channel c).rj + (s.channel c).sl ≤ 43934 = omega (arith, row.rj, row.sl) in
-      lt_by ((pos sums.sum_vpt) ∷ (pos sums.sum_vp) ∷ (s.channel c).b ∷ (Tc (s.channel c)) ∷ [])
+      lt_by ((pos sums.sumVPT) ∷ (pos sums.sumVP) ∷ (s.channel c).b ∷ (Tc (s.channel c)) ∷ [])
       ((# 0 :< v1) ∷ (# 873062 :* v1 :≤ v0) ∷ (opp (# 4096) :≤ v2) ∷ (v3 :≤ # 43934) ∷ [])
       (# 0) ((v0 :* # 1 :+ v2 :* v1) :* # 1 :- v3 :* (v1 :* # 1))
       (hyp 0 ⊕ nat 825032 ⊗ hyp 1 ⊕ hyp 2 ⊕ hyp 3 ⊕ hyp 4 ⊕ hyp 1 ⊗ hyp 3 ⊕ hyp 1 ⊗ hyp 4)
@@ -309,7 +309,7 @@ module _ (s : Settings) (bias : List ℕ) (m : Moment) (c i : ℕ) (range : Sett
   by_equations : (h : ByTheRules s m c i) → Equal (equations_at s m c i) (e_at s m c i)
   by_equations h =
       let z = rules_flag_zero s m c i h in
-      corrected_same (pos sums.Aw) (pos sums.Ac) (pos scene_count) (Tc (s.channel c)) (unrounded_tw (pos sums.sum_vpt) (pos sums.sum_vp) (s.channel c).b) (unrounded_tnl_at s m c)
+      corrected_same (pos sums.Aw) (pos sums.Ac) (pos scene_count) (Tc (s.channel c)) (unrounded_tw (pos sums.sumVPT) (pos sums.sumVP) (s.channel c).b) (unrounded_tnl_at s m c)
       (natural_below (flag_zero_warm_above range (target_of c) sums z)) (natural_below (flag_zero_cold_above range (target_of c) sums z)) h.warm_above_cold
       (product_above (weights_above s m c range below h) one_above) (rise_above h) (tnl_above s m c range below)
 

@@ -80,7 +80,7 @@ module _ (s : Settings) (m : Moment) (c i : ℕ) where
   t_at = t_of s m c count_at
 
   abbrev pub unrounded_tw_at : Fraction
-  unrounded_tw_at = let sums = means_at s m c in unrounded_tw (pos sums.sum_vpt) (pos sums.sum_vp) (s.channel c).b
+  unrounded_tw_at = let sums = means_at s m c in unrounded_tw (pos sums.sumVPT) (pos sums.sumVP) (s.channel c).b
 
   abbrev pub e_at : Fraction
   e_at = E (n_at /ᶠ d_at s m c) unrounded_tw_at (whole (Tc (s.channel c))) (unrounded_tnl_at s m c)
@@ -99,7 +99,7 @@ module _ (s : Settings) (m : Moment) (c i : ℕ) where
 
   -- the three weight sums suffice, the mean warm count is above the mean cold, the scene lies from 0 to 1.25, and the guard passes
   pub record ByTheRules : Type 0 where
-    pub thermometers : too_few_thermometers s (target_of c) (means_at s m c).sum_vp ≡ false
+    pub thermometers : too_few_thermometers s (target_of c) (means_at s m c).sumVP ≡ false
     pub warm : too_few_counts s Warm (means_at s m c).Ww ≡ false
     pub cold : too_few_counts s Cold (means_at s m c).Wc ≡ false
     pub warm_above_cold : pos 0 <ℤ d_at s m c

@@ -52,11 +52,11 @@ module _ (s : Settings) (at : ℕ → AcceptedSamples) where
   A side c = sum (λ k. cond (none (counts_in (at k) side c)) 0 (s.w k * scan_value (counts_in (at k) side c))) s.ages
 
   -- the sums of v_k p and of v_k p T, over the accepted thermometers of the target
-  abbrev pub sum_vp : Target → ℕ
-  sum_vp target = sum (λ k. s.v k * over (λ x. (s.thermometer (first_of target + x.place)).p) (thermometers_in (at k) target)) s.ages
+  abbrev pub sumVP : Target → ℕ
+  sumVP target = sum (λ k. s.v k * over (λ x. (s.thermometer (first_of target + x.place)).p) (thermometers_in (at k) target)) s.ages
 
-  abbrev pub sum_vpt : Target → ℕ
-  sum_vpt target = sum (λ k. s.v k * over (λ x. (s.thermometer (first_of target + x.place)).p * x.value) (thermometers_in (at k) target)) s.ages
+  abbrev pub sumVPT : Target → ℕ
+  sumVPT target = sum (λ k. s.v k * over (λ x. (s.thermometer (first_of target + x.place)).p * x.value) (thermometers_in (at k) target)) s.ages
 
   unfoldable pub sums_of : ℕ → Means
-  sums_of c = record { sum_vp = sum_vp (target_of c); sum_vpt = sum_vpt (target_of c); Ww = W Warm c; Aw = A Warm c; Wc = W Cold c; Ac = A Cold c }
+  sums_of c = record { sumVP = sumVP (target_of c); sumVPT = sumVPT (target_of c); Ww = W Warm c; Aw = A Warm c; Wc = W Cold c; Ac = A Cold c }

@@ -3,8 +3,8 @@ use Rattle.std.specs.Prelude.{ℤ, pos, ◌*ℤ◌}
 use Rattle.integers.specs.Fractions.{Fraction, ◌/ᶠ◌, whole, ◌+ᶠ◌, ◌-ᶠ◌, ◌*ᶠ◌, ◌÷ᶠ◌}
 
 -- the unrounded Tw leaves out r: sum of v p T over sum of v p, and b
-abbrev pub unrounded_tw : (sum_vpt sum_vp b : ℤ) → Fraction
-unrounded_tw sum_vpt sum_vp b = sum_vpt /ᶠ sum_vp +ᶠ whole b
+abbrev pub unrounded_tw : (sumVPT sumVP b : ℤ) → Fraction
+unrounded_tw sumVPT sumVP b = sumVPT /ᶠ sumVP +ᶠ whole b
 
 -- E is Tc + x(Tw - Tc) + 4x(1 - x) TNL with Tw and, by request W4, TNL unrounded
 abbrev pub E : (x tw tc tnl : Fraction) → Fraction
