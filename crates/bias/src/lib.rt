@@ -1,4 +1,7 @@
 // Request W1: the bias file, opened, and its values.
+
+#![tactic(auto)]
+
 ghost use Rattle.std.specs.Prelude.{◌≡◌, ℕ, ◌+◌, ◌<◌, ◌≤◌, [], ◌∷◌, length, get_or, replicate};
 ghost use Rattle.lists.specs.Build.{put};
 ghost use Rattle.instrument.specs.Instrument.{positions};
@@ -31,7 +34,7 @@ const PAIRS: usize = POSITIONS * CHANNELS;
 const PAIR_NUMBERS: usize = 2 * PAIRS;
 
 // An opened bias file. Only `open` makes one.
-#[derive(Drop)]
+#[derive(Clone, Copy)]
 pub struct Bias {
     bytes: [u8; BIAS_SIZE],
 }
@@ -102,7 +105,7 @@ pub fn open(bytes: &[u8]) -> Opened
         return refused(Opening::ValueOutside);
     }
     let mut copy = [0u8; BIAS_SIZE];
-    bytes::copy(bytes, &mut copy);
+    copy.copy_from_slice(bytes);
     Opened {
         answer: Opening::Accepted,
         bias: Bias { bytes: copy },

@@ -1,6 +1,9 @@
 // What a station gets from each C function, from plain arguments and with nothing asked of it: every answer, and every byte and number that is
 // written. Each contract here is proved only if the function of `station` that is called promises all of it, for all arguments. Nothing of this
 // crate is shipped.
+
+#![tactic(auto)]
+
 ghost use Rattle.std.specs.Prelude.{◌≡◌, length};
 ghost use Rattle.lists.specs.Tests.{number_of};
 ghost use Rattle.thermometer.specs.Reading.{number, reading};

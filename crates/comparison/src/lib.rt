@@ -1,4 +1,7 @@
 // The proved functions as C functions, for compare/ to call.
+
+#![tactic(auto)]
+
 ghost use Rattle.std.specs.Prelude.{◌≡◌, ◌++◌, ℕ, ◌+◌, ◌*◌, ◌<◌, ◌≤◌, pos, length, drop, ◌<ℤ◌};
 ghost use Rattle.integers.specs.Rounding.{floor, r};
 ghost use Rattle.fields.specs.Numbers.{u16_at, u32_at, i16_at, i32_at};

@@ -1,4 +1,7 @@
 // Document 01's fields: a one-byte tag, a two-byte length, a value; and the big-endian numbers in them, read and written.
+
+#![tactic(auto)]
+
 ghost use Rattle.std.specs.Prelude.{◌≡◌, ◌+◌, ◌*◌, ◌<◌, ◌≤◌, [], length};
 ghost use Rattle.lists.specs.Build.{put};
 ghost use Rattle.fields.specs.Numbers.{u16_at, u32_at, i16_at, i32_at, signed, u16_bytes, u32_bytes};

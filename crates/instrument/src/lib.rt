@@ -1,5 +1,8 @@
 // What the instrument has: channels, positions and thermometers, the two sides of a channel's calibration counts, the two warm targets, the
 // four receiver shelves.
+
+#![tactic(auto)]
+
 ghost use Rattle.std.specs.Prelude.{◌≡◌};
 ghost use Rattle.instrument.specs.Instrument.{first_of, size_of, target_of, shelf_of, side_place, target_place, shelf_place};
 
@@ -25,14 +28,14 @@ const FIRST_W: usize = 15;
 const FIRST_G: usize = 16;
 
 // Warm counts or cold counts.
-#[derive(Drop)]
+#[derive(Clone, Copy)]
 pub enum Side {
     Warm,
     Cold,
 }
 
 // The warm targets.
-#[derive(Drop)]
+#[derive(Clone, Copy)]
 pub enum Target {
     Kav,
     Wg,

@@ -1,4 +1,7 @@
 // Whole-number division and rounding on i64, and the laws on ℤ that every other crate uses.
+
+#![tactic(auto)]
+
 ghost use Rattle.std.specs.Prelude.{◌≡◌, ◌<◌, ◌≤◌, pos, ◌-ℤ◌, ◌*ℤ◌, ◌<ℤ◌, ◌≤ℤ◌};
 ghost use Rattle.integers.specs.Rounding.{floor, is_even, r};
 ghost use Rattle.integers.specs.Bounds.{Bounded};

@@ -1,4 +1,7 @@
 // Request W5: what a calibrator keeps of the last accepted scan, apart from the window; and the same as numbers, for a state.
+
+#![tactic(auto)]
+
 ghost use Rattle.std.specs.Prelude.{◌≡◌, cond, ℕ, ◌+◌, ◌*◌, ◌<◌, ◌≤◌, [], ◌∷◌, pos, ◌≤ℤ◌, length};
 ghost use Rattle.integers.specs.Bounds.{Bounded};
 ghost use Rattle.lists.specs.Build.{put};
@@ -14,7 +17,7 @@ use instrument::CHANNELS;
 use scene::{Channel, Constants};
 
 // Whether a scan is kept, and its channels.
-#[derive(Drop)]
+#[derive(Clone, Copy)]
 pub struct LastScan {
     pub any: bool,
     pub channels: [Channel; CHANNELS],

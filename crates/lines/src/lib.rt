@@ -1,4 +1,7 @@
 // Document 01, "Listing program": the lines, written into a lent buffer, and one step of the program.
+
+#![tactic(auto)]
+
 ghost use Rattle.std.specs.Prelude.{◌≡◌, ◌++◌, ◌+◌, ◌≤◌, length};
 ghost use Rattle.io.specs.Counts.{IsPrefixLen};
 ghost use Rattle.lists.specs.Build.{put};

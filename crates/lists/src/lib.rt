@@ -1,4 +1,7 @@
 // Definitions and laws on lists, and on tests that run in order, that several crates use; the test of a whole list, and a copy of numbers.
+
+#![tactic(auto)]
+
 ghost use Rattle.std.specs.Prelude.{◌≡◌, ◌+◌, ◌≤◌, length};
 ghost use Rattle.lists.specs.Build.{put};
 ghost use Rattle.lists.specs.Count.{all_hold};

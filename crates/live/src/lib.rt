@@ -1,4 +1,7 @@
 // Scan by scan: what a station calls on a state in its own memory.
+
+#![tactic(auto)]
+
 ghost use Rattle.std.specs.Prelude.{◌≡◌, ◌≤◌, length};
 ghost use Rattle.lists.specs.Tests.{number_of};
 ghost use Rattle.table.specs.Opening.{AcceptedTable};

@@ -1,4 +1,7 @@
 // Request W5: the count behind a temperature.
+
+#![tactic(auto)]
+
 ghost use Rattle.std.specs.Prelude.{◌≡◌, ℕ, ◌≤◌, true};
 ghost use Rattle.scene.specs.Ranges.{ConstantsRange};
 ghost use Rattle.scene.specs.Steps.{scale_of};

@@ -1,4 +1,7 @@
 // Request W4: TNL of a channel for a scan, from the channel's pairs and the scan's own shelf temperature.
+
+#![tactic(auto)]
+
 ghost use Rattle.std.specs.Prelude.{◌≡◌, ◌<◌, ◌≤ℤ◌, ◌<ℤ◌};
 ghost use Rattle.instrument.specs.Instrument.{channels};
 ghost use Rattle.integers.specs.Rounding.{r};

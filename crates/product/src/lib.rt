@@ -1,4 +1,7 @@
 // Document 01, "The product": the writer of a whole product.
+
+#![tactic(auto)]
+
 ghost use Rattle.std.specs.Prelude.{◌≡◌, ◌++◌, ℕ, ◌+◌, ◌*◌, ◌<◌, ◌≤◌, length, drop, get_or};
 ghost use Rattle.lists.specs.Build.{put};
 ghost use Rattle.lists.specs.Sum.{sum};
@@ -46,7 +49,7 @@ const SUMMARY_SIZE: usize = 10;
 const PAIRS_SIZE: usize = 2 * POSITIONS;
 
 // Of a channel: how many scenes are delivered, the lowest and the highest temperature.
-#[derive(Drop)]
+#[derive(Clone, Copy)]
 pub struct Summary {
     pub count: u16,
     pub low: f32,

@@ -3,6 +3,9 @@
 // bytes may go to the one call of `write` and for which stream. Open is what calls of C do, and runs test it: which bytes `read_record` and
 // `read_file` got and how many, that `write_to` is called once for each record and in order, that its bytes are written, and that a failed
 // call is answered as one.
+
+#![tactic(auto)]
+
 ghost use Rattle.std.specs.Prelude.{◌≡◌};
 ghost use Rattle.io.specs.Counts.{IsPrefixLen};
 ghost use Rattle.lists.specs.Build.{put};
@@ -22,7 +25,7 @@ use product::PRODUCT_SIZE;
 use record::RECORD_SIZE;
 use table::{Opening, TABLE_SIZE, Table};
 
-#[derive(Drop)]
+#[derive(Clone, Copy)]
 pub enum Program {
     // Document 01, "Listing program".
     Listing,

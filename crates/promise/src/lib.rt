@@ -1,1 +1,3 @@
 // Demand 3 and the restart law: what holds for every list of feeds; no code.
+
+#![tactic(auto)]

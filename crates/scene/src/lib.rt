@@ -1,4 +1,7 @@
 // Document 01, "Scenes": one scene.
+
+#![tactic(auto)]
+
 ghost use Rattle.std.specs.Prelude.{◌≡◌, not, T, pos, nat_abs, ◌+ℤ◌, ◌*ℤ◌, ◌≤ℤ◌};
 ghost use Rattle.std.specs.Float.Ieee.{is_nan};
 ghost use Rattle.integers.specs.Bounds.{Bounded};
@@ -10,7 +13,7 @@ ghost use Rattle.scene.specs.Steps.{scale_of, Bracket, unsure_of, c0_of, e_of, B
 use integers::{floor_div, round_natural, round_small};
 
 // A temperature in kelvin, or a mark.
-#[derive(Drop)]
+#[derive(Clone, Copy)]
 pub enum Scene {
     Kelvin(f32),
     Flagged,
@@ -19,7 +22,7 @@ pub enum Scene {
 }
 
 // What a scene needs of its channel, formed before the position loop.
-#[derive(Drop)]
+#[derive(Clone, Copy)]
 pub struct Constants {
     pub tc: i64,
     pub rise: i64,
@@ -30,7 +33,7 @@ pub struct Constants {
 }
 
 // The flag of a channel and, where it is 0, what its scenes need.
-#[derive(Drop)]
+#[derive(Clone, Copy)]
 pub struct Channel {
     pub flag: u8,
     pub constants: Constants,
@@ -53,7 +56,7 @@ pub fn no_constants() -> Constants
 // What the scenes of a channel share, formed of its constants before the position loop, so that most need no division: 2^63 / D, cut off;
 // the greatest rest of 2^32 that 33 times the rise does not fill; 5D / 4, cut off, the greatest N that is not outside; 4 TNL; Tc - 2^20,
 // from where the raised bend leads to T; and 2D, for the counts that are divided.
-#[derive(Drop)]
+#[derive(Clone, Copy)]
 pub struct Scale {
     pub inverse: u64,
     pub edge: u32,

@@ -1,4 +1,7 @@
 // A calibrator as bytes: written into a caller's memory, and read back from it.
+
+#![tactic(auto)]
+
 ghost use Rattle.std.specs.Prelude.{◌≡◌, true, ◌||◌, ◌&&◌, cond, ◌+◌, ◌*◌, ◌<◌, ◌≤◌, eqb, length, take, drop};
 ghost use Rattle.lists.specs.Build.{put};
 ghost use Rattle.fields.specs.Fields.{head_size, field_bytes};
@@ -83,7 +86,7 @@ fn put_field(out: &mut [u8], at: usize, tag: u8, value: &[u8])
     fields::put_head(out, at, tag, value.len() as u16);
     let start = at + HEAD;
     let end = start + value.len();
-    bytes::copy(value, &mut out[start..end]);
+    out[start..end].copy_from_slice(value);
 }
 
 // A field whose value is these numbers.
@@ -140,7 +143,7 @@ fn bytes_at(state: &[u8], at: usize, out: &mut [u8])
     ensures { out.new ≡ take (length out.old) (drop at state.now) }
 {
     let end = at + out.len();
-    bytes::copy(&state[at..end], out);
+    out.copy_from_slice(&state[at..end]);
 }
 
 // The table and the bias file of a state, as bytes of their own.

@@ -1,4 +1,7 @@
 // The C functions for stations, declared in include/sounder.h.
+
+#![tactic(auto)]
+
 ghost use Rattle.std.specs.Prelude.{◌≡◌, length};
 ghost use Rattle.lists.specs.Tests.{number_of};
 ghost use Rattle.thermometer.specs.Reading.{number, reading};

@@ -1,4 +1,7 @@
 // Document 01, "The table" and "Opening a table", and request W4.
+
+#![tactic(auto)]
+
 ghost use Rattle.std.specs.Prelude.{◌≡◌, ◌+◌, ◌*◌, ◌-◌, ◌<◌, ◌≤◌, length, get_or, replicate, eqb, ◌||◌};
 ghost use Rattle.std.specs.Int.Signed.{le_z, lt_z};
 ghost use Rattle.lists.specs.Sum.{sum};
@@ -62,13 +65,13 @@ const T_UPP_AT: usize = T_LOW_AT + 4;
 const D_T_AT: usize = T_UPP_AT + 4;
 
 // An opened table. Only `open` makes one.
-#[derive(Drop)]
+#[derive(Clone, Copy)]
 pub struct Table {
     bytes: [u8; TABLE_SIZE],
 }
 
 // Why a table is refused, or that it is accepted.
-#[derive(Drop)]
+#[derive(Clone, Copy)]
 pub enum Opening {
     Accepted,
     LengthWrong,
@@ -84,7 +87,7 @@ pub struct Opened {
 }
 
 // The rows of a table.
-#[derive(Drop)]
+#[derive(Clone, Copy)]
 enum Rows {
     OfThermometers,
     OfChannels,
@@ -92,7 +95,7 @@ enum Rows {
 }
 
 // The limits of four counts, and how far a count may be from another.
-#[derive(Drop)]
+#[derive(Clone, Copy)]
 pub struct Limits {
     pub low: u16,
     pub upp: u16,
@@ -100,7 +103,7 @@ pub struct Limits {
 }
 
 // One thermometer's row.
-#[derive(Drop)]
+#[derive(Clone, Copy)]
 pub struct Thermometer {
     pub p: u8,
     pub r0: u32,
@@ -110,7 +113,7 @@ pub struct Thermometer {
 }
 
 // b, rj, sl and TNL of a channel's row. TNL there has to be 0: a scan's TNL comes from the channel's pairs.
-#[derive(Drop)]
+#[derive(Clone, Copy)]
 pub struct Corrections {
     pub b: i64,
     pub rj: u16,
@@ -119,7 +122,7 @@ pub struct Corrections {
 }
 
 // A shelf temperature, and TNL there.
-#[derive(Drop)]
+#[derive(Clone, Copy)]
 pub struct ShelfPair {
     pub shelf: i64,
     pub tnl: i64,
@@ -512,7 +515,7 @@ pub fn open(bytes: &[u8]) -> Opened
         return refused(Opening::ValueOutside);
     }
     let mut copy = [0u8; TABLE_SIZE];
-    bytes::copy(bytes, &mut copy);
+    copy.copy_from_slice(bytes);
     Opened {
         answer: Opening::Accepted,
         table: Table { bytes: copy },

@@ -1,1 +1,3 @@
 // All that is promised beside the contracts of functions, as one theorem; no code.
+
+#![tactic(auto)]

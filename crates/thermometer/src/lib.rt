@@ -1,4 +1,7 @@
 // Document 01, "Thermometer rule (equations 18, 19)" and "One thermometer".
+
+#![tactic(auto)]
+
 ghost use Rattle.std.specs.Prelude.{◌≡◌, ◌≤◌, ◌<◌, pos, ◌+ℤ◌, ◌≤ℤ◌};
 ghost use Rattle.integers.specs.Bounds.{Bounded};
 ghost use Rattle.thermometer.specs.Rule.{M, q, s1, s2, F, answer, lowest_units, units_at_place, InRange};
@@ -9,7 +12,7 @@ ghost use Rattle.thermometer.specs.Reading.{resistance_inside, coefficients_insi
 use integers::floor_div;
 
 // What one thermometer gives: t in units of °C, or why there is none.
-#[derive(Drop)]
+#[derive(Clone, Copy)]
 pub enum Reading {
     Units(i64),
     CoefficientOutside,
