@@ -7,22 +7,22 @@ use borrow.Author.Rules.{rules}
 use Rattle.bias.proofs.put_two.Statement.{statement}
 use Rattle.bias.proofs.put_two.Tie as tie
 
-mul_out : tie.Need-overflow-mul-out
+mul_out : tie.Need-offset_bounds-out-at
 mul_out c = search rules
 
-slice_write_out : tie.Need-slice-write-out
+slice_write_out : tie.Need-bounds-out-at
 slice_write_out c = search rules
 
-add_out : tie.Need-overflow-add-out
+add_out : tie.Need-overflow_add-out
 add_out c = search rules
 
-mul_out_2 : tie.Need-overflow-mul-out-2
+mul_out_2 : tie.Need-offset_bounds-out-at-2
 mul_out_2 c = search rules
 
-slice_write_out_2 : tie.Need-slice-write-out-2
+slice_write_out_2 : tie.Need-bounds-out-at-2
 slice_write_out_2 c = simp length-set (omega arith)
 
-same_length : tie.Need-same-length
+same_length : tie.Need-shape_of-out
 same_length c = search rules
 
 returns : tie.Need-returns

@@ -31,17 +31,17 @@ module _ {k : Constants} (range : ConstantsRange k) where
   unfolding alike_channels
   each_in_range c h = subst ChannelStateRange (sym (get_or-replicate channels c (record { flag = 0; constants = k }) no_channel h)) (record { constants = λ _. range })
 
-alike_channels_requires : tie.Need-alike-channels-requires
+alike_channels_requires : tie.Need-alike_channels-requires
 alike_channels_requires c κs = search rules
 
-write_product_requires : tie.Need-write-product-requires
+write_product_requires : tie.Need-write_product-requires
 write_product_requires c κs =
     let s = c.before.before.before.before.before in
     let back = constants_read_back s.ranges.tc s.ranges.rise s.ranges.tnl s.ranges.d s.ranges.slope s.ranges.base in
-    let same = c.alike-channels.ensures ∙ ap alike_channels back in
+    let same = c.alike_channels.ensures ∙ ap alike_channels back in
     ((s.requires.0.0, s.requires.0.1, subst (λ (l : List Channel). (i : ℕ) → i < channels → ChannelStateRange (get_or l i no_channel)) (sym same) (each_in_range s.requires.0.2)), s.requires.1)
 
-same_length : tie.Need-same-length
+same_length : tie.Need-shape_of-buffer
 same_length c = search rules
 
 returns : tie.Need-returns
@@ -49,10 +49,10 @@ returns c =
     let s = c.before.before.before.before.before.before.before.before in
     let deliver = by_pairs s.args.pairs.now in
     let back = constants_read_back s.ranges.tc s.ranges.rise s.ranges.tnl s.ranges.d s.ranges.slope s.ranges.base in
-    let same = c.before.before.before.alike-channels.ensures ∙ ap alike_channels back in
-    let written = c.before.before.write-product.ensures in (
+    let same = c.before.before.before.alike_channels.ensures ∙ ap alike_channels back in
+    let written = c.before.before.write_product.ensures in (
       written.0 ∙ ap (λ (l : List Channel). delivered_count deliver l s.args.earth.now) same,
-      written.1 ∙ ap (λ (l : List Channel). product_of deliver s.args.number l s.args.earth.now ++ drop product_size s.args.buffer.now) same,
+      written.1 ∙ ap (λ (l : List Channel). product_of deliver s.args.number l s.args.earth.now ++ drop product_size s.args.buffer-1.now) same,
     )
 
 pub compared_product_spec : {M : Type 1} → statement M

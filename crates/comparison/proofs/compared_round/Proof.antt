@@ -11,7 +11,7 @@ round_requires c κs = search rules
 returns : tie.Need-returns
 returns c =
     let s = c.before in
-    result_reads_back c.round.result c.round.type-inv ∙ (rw (reads_back s.ranges.a, reads_back s.ranges.b) at c.round.ensures)
+    result_reads_back c.round.result c.round.type_inv ∙ (rw (reads_back s.ranges.a, reads_back s.ranges.b) at c.round.ensures)
 
 pub compared_round_spec : {M : Type 1} → statement M
 compared_round_spec = tie.close (tie.spec round_requires returns)

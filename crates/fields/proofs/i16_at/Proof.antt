@@ -7,20 +7,20 @@ use Rattle.fields.specs.Numbers.{signed}
 use Rattle.fields.proofs.i16_at.Statement.{statement}
 use Rattle.fields.proofs.i16_at.Tie as tie
 
-u16_at_requires : tie.Need-u16-at-requires
+u16_at_requires : tie.Need-u16_at-requires
 u16_at_requires c κs = search rules
 
-cast_signed_of : tie.Need-overflow-cast-signed-of
+cast_signed_of : tie.Need-overflow_cast-u16_at
 cast_signed_of c = search rules
 
-signed_of_requires : tie.Need-signed-of-requires
+signed_of_requires : tie.Need-signed_of-requires
 signed_of_requires c κs = search rules
 
 returns : tie.Need-returns
 returns c =
-    to_z-of_z w64 _ (record { sfits = c.Signed-of.type-inv })
+    to_z-of_z w64 _ (record { sfits = c.Signed-of.type_inv })
     ∙ c.Signed-of.ensures
-    ∙ ap (signed 0x8000) c.before.u16-at.ensures
+    ∙ ap (signed 0x8000) c.before.u16_at.ensures
 
 pub i16_at_spec : {M : Type 1} → statement M
 i16_at_spec = tie.close (tie.spec u16_at_requires cast_signed_of signed_of_requires returns)

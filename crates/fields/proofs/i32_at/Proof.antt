@@ -7,17 +7,17 @@ use Rattle.fields.specs.Numbers.{signed}
 use Rattle.fields.proofs.i32_at.Statement.{statement}
 use Rattle.fields.proofs.i32_at.Tie as tie
 
-u32_at_requires : tie.Need-u32-at-requires
+u32_at_requires : tie.Need-u32_at-requires
 u32_at_requires c κs = search rules
 
-signed_of_requires : tie.Need-signed-of-requires
+signed_of_requires : tie.Need-signed_of-requires
 signed_of_requires c κs = search rules
 
 returns : tie.Need-returns
 returns c =
-    to_z-of_z w64 _ (record { sfits = c.Signed-of.type-inv })
+    to_z-of_z w64 _ (record { sfits = c.Signed-of.type_inv })
     ∙ c.Signed-of.ensures
-    ∙ ap (signed 0x8000_0000) c.before.u32-at.ensures
+    ∙ ap (signed 0x8000_0000) c.before.u32_at.ensures
 
 pub i32_at_spec : {M : Type 1} → statement M
 i32_at_spec = tie.close (tie.spec u32_at_requires signed_of_requires returns)

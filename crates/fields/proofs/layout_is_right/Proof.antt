@@ -11,105 +11,90 @@ use Rattle.fields.proofs.LayoutLaws.{layout_from_lem, layout_from_end, size_from
 use Rattle.fields.proofs.layout_is_right.Statement.{statement}
 use Rattle.fields.proofs.layout_is_right.Tie as tie
 
-abbrev invariant_loop : tie.invariant_loop
+abbrev invariant_loop : tie.invariant-loop-k
 invariant_loop bytes tags sizes at₀ k₀ k-end at k =
     (k ≤ length tags)
     × (at + layout_size (layout_from_lem tags sizes k) ≤ length bytes)
     × (layout_is_right bytes 0 (layout_of tags sizes) ≡ layout_is_right bytes at (layout_from_lem tags sizes k))
 
-abbrev decreases_loop : tie.decreases_loop
+abbrev decreases_loop : tie.decreases-loop-k
 decreases_loop bytes tags sizes at₀ k₀ k-end at k = length tags - k
 
-loop_holds : tie.Need-loop-init invariant_loop decreases_loop
+loop_holds : tie.Need-loop-k-init invariant_loop decreases_loop
 loop_holds c = search rules
 
-shared_slice_read_tag : tie.Need-shared-slice-read-tag invariant_loop decreases_loop
+shared_slice_read_tag : tie.Need-bounds-tags-k invariant_loop decreases_loop
 shared_slice_read_tag c = search rules
 
-mul_size : tie.Need-overflow-mul-size invariant_loop decreases_loop
+mul_size : tie.Need-offset_bounds-sizes-k invariant_loop decreases_loop
 mul_size c = search rules
 
-shared_slice_read_size : tie.Need-shared-slice-read-size invariant_loop decreases_loop
+shared_slice_read_size : tie.Need-bounds-sizes-k invariant_loop decreases_loop
 shared_slice_read_size c = search rules
 
-field_is_right_requires : tie.Need-field-is-right-requires invariant_loop decreases_loop
+field_is_right_requires : tie.Need-field_is_right-requires invariant_loop decreases_loop
 field_is_right_requires c κs =
     let l = c.before.before.before in
     let a = l.before.before.before.before.args in
-    omega (arith, size_from a.tags.now a.sizes.now l.loop.k (omega arith) (omega arith))
+    omega (arith, size_from a.tags.now a.sizes.now l.loop-k.k (omega arith) (omega arith))
 
-returns : tie.Need-returns invariant_loop decreases_loop
+returns : tie.Need-returns-then-not-field_is_right invariant_loop decreases_loop
 returns c =
     let l = c.before.before.before.before.before in
     let a = l.before.before.before.before.args in
     sym
-    (l.loop.invariant.2
-    ∙ wrong_from a.tags.now a.sizes.now l.loop.k (omega arith) (omega arith) a.bytes.now l.loop.at
-    (sym c.before.field_is_right_lem.ensures ∙ not-true _ c.if1.true))
+    (l.loop-k.invariant.2
+    ∙ wrong_from a.tags.now a.sizes.now l.loop-k.k (omega arith) (omega arith) a.bytes.now l.loop-k.at
+    (sym c.before.field_is_right_lem.ensures ∙ not-true _ c.if-not-field_is_right.true-raw))
 
-add_at : tie.Need-overflow-add-at invariant_loop decreases_loop
+add_at : tie.Need-overflow_add-at invariant_loop decreases_loop
 add_at c =
     let l = c.before.before.before.before.before in
     let a = l.before.before.before.before.args in
-    omega (arith, size_from a.tags.now a.sizes.now l.loop.k (omega arith) (omega arith))
+    omega (arith, size_from a.tags.now a.sizes.now l.loop-k.k (omega arith) (omega arith))
 
-cast_at : tie.Need-overflow-cast-at invariant_loop decreases_loop
+cast_at : tie.Need-overflow_cast-at invariant_loop decreases_loop
 cast_at c =
     let l = c.before.before.before.before.before in
-    omega (arith, c.before.before.shared-slice-known5.given l.loop.k)
+    omega (arith, c.before.before.shared_slice_known-in-loop-k-2-1.given l.loop-k.k)
 
-add_at_2 : tie.Need-overflow-add-at-2 invariant_loop decreases_loop
+add_at_2 : tie.Need-overflow_add-at-in-loop-k invariant_loop decreases_loop
 add_at_2 c =
     let l = c.before.before.before.before.before in
     let a = l.before.before.before.before.args in
-    omega (arith, size_from a.tags.now a.sizes.now l.loop.k (omega arith) (omega arith))
+    omega (arith, size_from a.tags.now a.sizes.now l.loop-k.k (omega arith) (omega arith))
 
-add_k : tie.Need-overflow-add-k invariant_loop decreases_loop
+add_k : tie.Need-overflow_step-k invariant_loop decreases_loop
 add_k c = search rules
 
-loop_less : tie.Need-loop-smaller invariant_loop decreases_loop
+loop_less : tie.Need-loop-k-smaller invariant_loop decreases_loop
 loop_less c = search rules
 
-loop_again : tie.Need-loop-preserved invariant_loop decreases_loop
+loop_again : tie.Need-loop-k-preserved invariant_loop decreases_loop
 loop_again c =
     let l = c.before.before.before.before.before in
     let a = l.before.before.before.before.args in
     let tags = a.tags.now in
     let sizes = a.sizes.now in
-    let k = l.loop.k in (
+    let k = l.loop-k.k in (
       omega arith,
       omega (arith, size_from tags sizes k (omega arith) (omega arith)),
-      l.loop.invariant.2
-          ∙ right_from tags sizes k (omega arith) (omega arith) a.bytes.now l.loop.at
-          (sym c.before.field_is_right_lem.ensures ∙ not-false _ c.if1.false),
+      l.loop-k.invariant.2
+          ∙ right_from tags sizes k (omega arith) (omega arith) a.bytes.now l.loop-k.at
+          (sym c.before.field_is_right_lem.ensures ∙ not-false _ c.if-not-field_is_right.false-raw),
     )
 
-returns_2 : tie.Need-returns-2 invariant_loop decreases_loop
+returns_2 : tie.Need-returns invariant_loop decreases_loop
 unfolding layout_is_right
 returns_2 c =
     let l = c.before in
     let a = l.before.before.before.before.args in
     sym
-    (l.loop.invariant.2
-    ∙ ap (layout_is_right a.bytes.now l.loop.at)
-    (layout_from_end a.tags.now a.sizes.now l.loop.k (omega arith)))
+    (l.loop-k.invariant.2
+    ∙ ap (layout_is_right a.bytes.now l.loop-k.at)
+    (layout_from_end a.tags.now a.sizes.now l.loop-k.k (omega arith)))
 
 pub layout_is_right_spec : {M : Type 1} → statement M
 layout_is_right_spec =
     tie.close
-    (tie.spec
-    invariant_loop
-    decreases_loop
-    loop_holds
-    shared_slice_read_tag
-    mul_size
-    shared_slice_read_size
-    field_is_right_requires
-    returns
-    add_at
-    cast_at
-    add_at_2
-    add_k
-    loop_less
-    loop_again
-    returns_2)
+    (tie.spec invariant_loop decreases_loop loop_holds shared_slice_read_tag mul_size shared_slice_read_size field_is_right_requires returns add_at cast_at add_at_2 add_k loop_less loop_again returns_2)

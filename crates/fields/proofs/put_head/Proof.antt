@@ -11,24 +11,24 @@ use borrow.Author.Rules.{rules}
 use Rattle.fields.proofs.put_head.Statement.{statement}
 use Rattle.fields.proofs.put_head.Tie as tie
 
-slice_write_out : tie.Need-slice-write-out
+slice_write_out : tie.Need-bounds-out-at
 slice_write_out c = search rules
 
-add_put_u16 : tie.Need-overflow-add-put-u16
+add_put_u16 : tie.Need-overflow_add-at
 add_put_u16 c = search rules
 
-put_u16_requires : tie.Need-put-u16-requires
+put_u16_requires : tie.Need-put_u16-requires
 put_u16_requires c κs = simp length-set (omega arith)
 
-same_length : tie.Need-same-length
-same_length c = c.before.before.put-u16.auto.0 ∙ simp length-set
+same_length : tie.Need-shape_of-out
+same_length c = c.before.before.put_u16.auto.0 ∙ simp length-set
 
 returns : tie.Need-returns
 returns c =
     let w = c.before.before in
     let a = w.before.before.before.args in
-    let b = a.out.now in
-    w.put-u16.ensures
+    let b = a.out-1.now in
+    w.put_u16.ensures
     ∙ ap (λ (l : List ℕ). put l (a.at + 1) (u16_bytes a.size)) (stores_are_put b a.at a.tag [] (omega arith))
     ∙ put_after_put b (a.tag ∷ []) (u16_bytes a.size) a.at (a.at + 1) (omega arith) (omega arith)
 

@@ -8,22 +8,22 @@ use borrow.Author.Rules.{rules}
 use Rattle.fields.proofs.put_u16.Statement.{statement}
 use Rattle.fields.proofs.put_u16.Tie as tie
 
-cast_out : tie.Need-overflow-cast-out
+cast_out : tie.Need-overflow_cast-out
 cast_out c = search rules
 
-slice_write_out : tie.Need-slice-write-out
+slice_write_out : tie.Need-bounds-out-at
 slice_write_out c = search rules
 
-cast_out_2 : tie.Need-overflow-cast-out-2
+cast_out_2 : tie.Need-overflow_cast-out-2
 cast_out_2 c = search rules
 
-add_out : tie.Need-overflow-add-out
+add_out : tie.Need-overflow_add-out
 add_out c = search rules
 
-slice_write_out_2 : tie.Need-slice-write-out-2
+slice_write_out_2 : tie.Need-bounds-out-at-2
 slice_write_out_2 c = simp length-set (omega arith)
 
-same_length : tie.Need-same-length
+same_length : tie.Need-shape_of-out
 same_length c = search rules
 
 returns : tie.Need-returns

@@ -27,32 +27,32 @@ twice_reads_back : (n : ℕ) → n < 2 ^ 32 → to_z w64 (of_z w64 (pos 2 *ℤ t
 twice_reads_back n small =
     rw (to_z_pos w64 n (omega arith)) (to_z_pos w64 (2 * n) (omega arith) ∙ ap pos (omega arith))
 
-cast_result : tie.Need-overflow-cast-result
+cast_result : tie.Need-overflow_cast-result
 cast_result c = search rules
 
-returns : tie.Need-returns
-returns c = to_z_pos w64 c.before.args.n (omega arith) ∙ simp (lt-ltb _ _ c.if1.true)
+returns : tie.Need-returns-then-n-half
+returns c = to_z_pos w64 c.before.args.n (omega arith) ∙ simp (lt-ltb _ _ c.if-n-half.true)
 
-cast_result_2 : tie.Need-overflow-cast-result-2
+cast_result_2 : tie.Need-overflow_cast-result-2
 cast_result_2 c = search rules
 
-cast_result_3 : tie.Need-overflow-cast-result-3
+cast_result_3 : tie.Need-overflow_cast-result-3
 cast_result_3 c = search rules
 
-mul_result : tie.Need-overflow-mul-result
+mul_result : tie.Need-overflow_mul-result
 mul_result c = rw (to_z_pos w64 c.before.args.half (omega arith)) (record { sfits = omega arith })
 
-sub_result : tie.Need-overflow-sub-result
+sub_result : tie.Need-overflow_sub-result
 sub_result c =
     let a = c.before.args in
     rw (twice_reads_back a.half (omega arith), to_z_pos w64 a.n (omega arith))
     (difference_fits a.n (a.half + a.half) (omega arith) (omega arith))
 
-returns_2 : tie.Need-returns-2
+returns_2 : tie.Need-returns
 returns_2 c =
     let a = c.before.args in
     rw (twice_reads_back a.half (omega arith), to_z_pos w64 a.n (omega arith))
-    (to_z-of_z w64 _ (difference_fits a.n (a.half + a.half) (omega arith) (omega arith)) ∙ simp (le-ltb _ _ c.if1.false))
+    (to_z-of_z w64 _ (difference_fits a.n (a.half + a.half) (omega arith) (omega arith)) ∙ simp (le-ltb _ _ c.if-n-half.false))
 
 pub signed_of_spec : {M : Type 1} → statement M
 signed_of_spec =

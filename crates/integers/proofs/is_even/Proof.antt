@@ -23,7 +23,7 @@ rest_is_zero : (n : ℤ) → eqb (of_z w64 (rem_z n (pos 2))) 0 ≡ is_even n
 rest_is_zero (pos m) = refl
 rest_is_zero (negsuc m) = zero_when_negated _ (mod-lt (suc m) {m = 2} (omega arith))
 
-rem_result : tie.Need-nonzero-rem-result
+rem_result : tie.Need-nonzero_rem-result
 rem_result c = rw (reads_back c.ranges.n) (omega arith, quotient_fits c.ranges.n (lt_z_yes tt))
 
 returns : tie.Need-returns

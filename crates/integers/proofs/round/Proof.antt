@@ -37,7 +37,7 @@ one_more_fits a {b} p f h =
     two : pos 2 ≤ℤ b
     two = (le_by (b ∷ (Past a b) ∷ []) ((# 0 :< v0) ∷ (v1 :< v0) ∷ (v0 :- v1 :≤ v1) ∷ []) (# 2) v0 (hyp 0 ⊕ nat 2 ⊗ hyp 2 ⊕ hyp 3) tt p (rest_high a p) h)
 
-module _ (c : tie.After-remainder) where
+module _ (c : tie.After-remainder-past) where
   abbrev start : tie.Start
   start = c.before.before
 
@@ -47,89 +47,79 @@ module _ (c : tie.After-remainder) where
   abbrev b : ℤ
   b = start.args.b
 
-  low_is : to_z w64 (of_z w64 c.before.floor-div.result) ≡ floor a b
-  low_is = result_reads_back c.before.floor-div.result c.before.floor-div.type-inv ∙ (rw (reads_back start.fits.a, reads_back start.fits.b) at c.before.floor-div.ensures)
+  low_is : to_z w64 (of_z w64 c.before.floor_div-low.result) ≡ floor a b
+  low_is = result_reads_back c.before.floor_div-low.result c.before.floor_div-low.type_inv ∙ (rw (reads_back start.fits.a, reads_back start.fits.b) at c.before.floor_div-low.ensures)
 
-  past_is : to_z w64 (of_z w64 c.remainder.result) ≡ Past a b
-  past_is = result_reads_back c.remainder.result c.remainder.type-inv ∙ (rw (reads_back start.fits.a, reads_back start.fits.b) at c.remainder.ensures)
+  past_is : to_z w64 (of_z w64 c.remainder-past.result) ≡ Past a b
+  past_is = result_reads_back c.remainder-past.result c.remainder-past.type_inv ∙ (rw (reads_back start.fits.a, reads_back start.fits.b) at c.remainder-past.ensures)
 
-  short_is : to_z w64 (of_z w64 (to_z w64 (of_z w64 b) -ℤ to_z w64 (of_z w64 c.remainder.result))) ≡ b -ℤ Past a b
-  short_is = rw (reads_back start.fits.b, past_is, reads_back (short_fits a start.pre start.fits.b))
+  short_is : to_z w64 (of_z w64 (to_z w64 (of_z w64 b) -ℤ to_z w64 (of_z w64 c.remainder-past.result))) ≡ b -ℤ Past a b
+  short_is = rw (reads_back start.fits.b, past_is, reads_back (short_fits a start.requires start.fits.b))
 
-  next_fits : (b -ℤ Past a b) ≤ℤ Past a b → SFits w64 (to_z w64 (of_z w64 c.before.floor-div.result) +ℤ pos 1)
-  next_fits h = rw low_is (one_more_fits a start.pre start.fits.a h)
+  next_fits : (b -ℤ Past a b) ≤ℤ Past a b → SFits w64 (to_z w64 (of_z w64 c.before.floor_div-low.result) +ℤ pos 1)
+  next_fits h = rw low_is (one_more_fits a start.requires start.fits.a h)
 
-  next_is : (b -ℤ Past a b) ≤ℤ Past a b → to_z w64 (of_z w64 (to_z w64 (of_z w64 c.before.floor-div.result) +ℤ pos 1)) ≡ floor a b +ℤ pos 1
-  next_is h = rw (low_is, reads_back (one_more_fits a start.pre start.fits.a h))
+  next_is : (b -ℤ Past a b) ≤ℤ Past a b → to_z w64 (of_z w64 (to_z w64 (of_z w64 c.before.floor_div-low.result) +ℤ pos 1)) ≡ floor a b +ℤ pos 1
+  next_is h = rw (low_is, reads_back (one_more_fits a start.requires start.fits.a h))
 
-floor_div_requires : tie.Need-floor-div-requires
+floor_div_requires : tie.Need-floor_div-low-requires
 floor_div_requires c κs = search rules
 
-remainder_requires : tie.Need-remainder-requires
+remainder_requires : tie.Need-remainder-past-requires
 remainder_requires c κs = search rules
 
-sub_short : tie.Need-overflow-sub-short
+sub_short : tie.Need-overflow_sub-short
 sub_short c = rw (reads_back (start c).ranges.b, past_is c) (short_fits (a c) (start c).requires (start c).ranges.b)
 
 -- ---- less than half of b is left
-returns : tie.Need-returns
+returns : tie.Need-returns-then-past-short
 returns c =
     let m = c.before in
-    low_is m ∙ r_is_floor (a m) (b m) (lt_z_true (rw (short_is m, past_is m) at c.if1.true))
+    low_is m ∙ r_is_floor (a m) (b m) (lt_z_true (rw (short_is m, past_is m) at c.if-past-short.true))
 
 -- ---- more than half
-half_or_more : (c : tie.Else1) → (b c.before -ℤ Past (a c.before) (b c.before)) ≤ℤ Past (a c.before) (b c.before)
-half_or_more c = lt_z_false (rw (short_is c.before, past_is c.before) at c.if1.false)
+half_or_more : (c : tie.Else-past-short) → (b c.before -ℤ Past (a c.before) (b c.before)) ≤ℤ Past (a c.before) (b c.before)
+half_or_more c = lt_z_false (rw (short_is c.before, past_is c.before) at c.if-past-short.false)
 
-add_result : tie.Need-overflow-add-result
+add_result : tie.Need-overflow_add-result
 add_result c = next_fits c.before.before (half_or_more c.before)
 
-returns_2 : tie.Need-returns-2
+returns_2 : tie.Need-returns-then-short-past
 returns_2 c =
     let m = c.before.before in
-    next_is m (half_or_more c.before) ∙ r_above_floor (a m) (b m) (lt_z_true (rw (short_is m, past_is m) at c.if2.true))
+    next_is m (half_or_more c.before) ∙ r_above_floor (a m) (b m) (lt_z_true (rw (short_is m, past_is m) at c.if-short-past.true))
 
 -- ---- just half
-module _ (c : tie.After-is-even) where
-  abbrev m : tie.After-remainder
+module _ (c : tie.After-is_even) where
+  abbrev m : tie.After-remainder-past
   m = c.before.before.before
 
   midway : even_of (floor (a m) (b m)) ≡ r (a m) (b m)
-  midway = r_midway (a m) (b m) (at_most_antisym (lt_z_false (rw (short_is m, past_is m) at c.before.if2.false)) (half_or_more c.before.before))
+  midway = r_midway (a m) (b m) (at_most_antisym (lt_z_false (rw (short_is m, past_is m) at c.before.if-short-past.false)) (half_or_more c.before.before))
 
-  test_is : c.is-even.result ≡ is_even (floor (a m) (b m))
-  test_is = rw (low_is m) at c.is-even.ensures
+  test_is : c.is_even.result ≡ is_even (floor (a m) (b m))
+  test_is = rw (low_is m) at c.is_even.ensures
 
-  chosen : (t : Bool) → c.is-even.result ≡ t → cond t (floor (a m) (b m)) (floor (a m) (b m) +ℤ pos 1) ≡ r (a m) (b m)
+  chosen : (t : Bool) → c.is_even.result ≡ t → cond t (floor (a m) (b m)) (floor (a m) (b m) +ℤ pos 1) ≡ r (a m) (b m)
   chosen t h = ap (λ t. cond t (floor (a m) (b m)) (floor (a m) (b m) +ℤ pos 1)) (sym h ∙ test_is) ∙ midway
 
-is_even_requires : tie.Need-is-even-requires
+is_even_requires : tie.Need-is_even-requires
 is_even_requires c κs = search rules
 
-returns_3 : tie.Need-returns-3
+returns_3 : tie.Need-returns-then-is_even
 returns_3 c =
     let e = c.before in
-    low_is (m e) ∙ chosen e true c.if3.true
+    low_is (m e) ∙ chosen e true c.if-is_even.true
 
-add_result_2 : tie.Need-overflow-add-result-2
+add_result_2 : tie.Need-overflow_add-result-2
 add_result_2 c = next_fits (m c.before) (half_or_more c.before.before.before)
 
-returns_4 : tie.Need-returns-4
+returns_4 : tie.Need-returns
 returns_4 c =
     let e = c.before in
-    next_is (m e) (half_or_more e.before.before) ∙ chosen e false c.if3.false
+    next_is (m e) (half_or_more e.before.before) ∙ chosen e false c.if-is_even.false
 
 pub round_spec : {M : Type 1} → statement M
 round_spec =
     tie.close
-    (tie.spec
-    floor_div_requires
-    remainder_requires
-    sub_short
-    returns
-    add_result
-    returns_2
-    is_even_requires
-    returns_3
-    add_result_2
-    returns_4)
+    (tie.spec floor_div_requires remainder_requires sub_short returns add_result returns_2 is_even_requires returns_3 add_result_2 returns_4)

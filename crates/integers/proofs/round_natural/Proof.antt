@@ -4,25 +4,25 @@ use Rattle.integers.proofs.Nearest.{r_of_naturals}
 use Rattle.integers.proofs.round_natural.Statement.{statement}
 use Rattle.integers.proofs.round_natural.Tie as tie
 
-sub_result : tie.Need-overflow-sub-result
+sub_result : tie.Need-overflow_sub-result
 sub_result c = search rules
 
-add_result : tie.Need-overflow-add-result
+add_result : tie.Need-overflow_add-result
 add_result c = search rules
 
-mul_result : tie.Need-overflow-mul-result
+mul_result : tie.Need-overflow_mul-result
 mul_result c = search rules
 
-div_result : tie.Need-nonzero-div-result
+div_result : tie.Need-nonzero_div-result
 div_result c = search rules
 
-add_result_2 : tie.Need-overflow-add-result-2
+add_result_2 : tie.Need-overflow_add-result-2
 add_result_2 c = search rules
 
-mul_result_2 : tie.Need-overflow-mul-result-2
+mul_result_2 : tie.Need-overflow_mul-result-2
 mul_result_2 c = search rules
 
-div_result_2 : tie.Need-nonzero-div-result-2
+div_result_2 : tie.Need-nonzero_div-result-2
 div_result_2 c = search rules
 
 returns : tie.Need-returns
@@ -31,12 +31,4 @@ returns c = r_of_naturals c.args.a c.args.half c.requires.1
 pub round_natural_spec : {M : Type 1} → statement M
 round_natural_spec =
     tie.close
-    (tie.spec
-    sub_result
-    add_result
-    mul_result
-    div_result
-    add_result_2
-    mul_result_2
-    div_result_2
-    returns)
+    (tie.spec sub_result add_result mul_result div_result add_result_2 mul_result_2 div_result_2 returns)

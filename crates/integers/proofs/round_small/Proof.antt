@@ -57,15 +57,15 @@ module _ (s : tie.Start) where
   sum_is = rw (reads_back s.ranges.a, reads_back s.ranges.b, reads_back (twice_a_fits s.requires), reads_back (sum_fits s.requires))
 
   twice_is : to_z w64 (of_z w64 s.args.twice) ≡ pos 2 *ℤ s.args.b
-  twice_is = reads_back s.fits.twice ∙ s.pre.3
+  twice_is = reads_back s.fits.twice ∙ s.requires.3
 
-mul_sum : tie.Need-overflow-mul-sum
+mul_sum : tie.Need-overflow_mul-sum
 mul_sum c = rw (reads_back c.ranges.a) (twice_a_fits c.requires)
 
-add_sum : tie.Need-overflow-add-sum
+add_sum : tie.Need-overflow_add-sum
 add_sum c = rw (reads_back c.ranges.a, reads_back c.ranges.b, reads_back (twice_a_fits c.requires)) (sum_fits c.requires)
 
-floor_div_requires : tie.Need-floor-div-requires
+floor_div_requires : tie.Need-floor_div-up-requires
 floor_div_requires c κs = rw (twice_is c) (twice_b_above_zero c.requires)
 
 remainder_requires : tie.Need-remainder-requires
@@ -81,56 +81,47 @@ module _ (c : tie.After-remainder) where
   abbrev b : ℤ
   b = start.args.b
 
-  up_is : to_z w64 (of_z w64 c.before.floor-div.result) ≡ Up a b
-  up_is = result_reads_back c.before.floor-div.result c.before.floor-div.type-inv ∙ (rw (sum_is start, twice_is start) at c.before.floor-div.ensures)
+  up_is : to_z w64 (of_z w64 c.before.floor_div-up.result) ≡ Up a b
+  up_is = result_reads_back c.before.floor_div-up.result c.before.floor_div-up.type_inv ∙ (rw (sum_is start, twice_is start) at c.before.floor_div-up.ensures)
 
   rest_is : to_z w64 (of_z w64 c.remainder.result) ≡ Rest a b
-  rest_is = result_reads_back c.remainder.result c.remainder.type-inv ∙ (rw (sum_is start, twice_is start) at c.remainder.ensures)
+  rest_is = result_reads_back c.remainder.result c.remainder.type_inv ∙ (rw (sum_is start, twice_is start) at c.remainder.ensures)
 
-returns : tie.Need-returns
+returns : tie.Need-returns-then-remainder-gt0
 returns c =
     let m = c.before in
     let s = start m in
-    up_is m ∙ r_when_rest (a m) (Up (a m) (b m)) s.pre.1 (up_high s.pre) (lt_z_true (rw (rest_is m) at c.if1.true))
+    up_is m ∙ r_when_rest (a m) (Up (a m) (b m)) s.requires.1 (up_high s.requires) (lt_z_true (rw (rest_is m) at c.if-remainder-gt0.true))
 
 -- ---- nothing is left
-module _ (c : tie.After-is-even) where
+module _ (c : tie.After-is_even) where
   abbrev m : tie.After-remainder
   m = c.before.before
 
   nothing_left : Rest (a m) (b m) ≡ pos 0
-  nothing_left = at_most_antisym (lt_z_false (rw (rest_is m) at c.before.if1.false)) (rest_low (pos 2 *ℤ a m +ℤ b m) (twice_b_above_zero (start m).pre))
+  nothing_left = at_most_antisym (lt_z_false (rw (rest_is m) at c.before.if-remainder-gt0.false)) (rest_low (pos 2 *ℤ a m +ℤ b m) (twice_b_above_zero (start m).requires))
 
-  test_is : c.is-even.result ≡ is_even (Up (a m) (b m))
-  test_is = rw (up_is m) at c.is-even.ensures
+  test_is : c.is_even.result ≡ is_even (Up (a m) (b m))
+  test_is = rw (up_is m) at c.is_even.ensures
 
-is_even_requires : tie.Need-is-even-requires
+is_even_requires : tie.Need-is_even-requires
 is_even_requires c κs = search rules
 
-returns_2 : tie.Need-returns-2
+returns_2 : tie.Need-returns-then-is_even
 returns_2 c =
     let e = c.before in
-    up_is (m e) ∙ r_at_even_half (a (m e)) (Up (a (m e)) (b (m e))) (start (m e)).pre.1 (nothing_left e) (sym (test_is e) ∙ c.if2.true)
+    up_is (m e) ∙ r_at_even_half (a (m e)) (Up (a (m e)) (b (m e))) (start (m e)).requires.1 (nothing_left e) (sym (test_is e) ∙ c.if-is_even.true)
 
-sub_result : tie.Need-overflow-sub-result
-sub_result c = let k = m c.before in rw (up_is k) (one_less_fits (start k).pre)
+sub_result : tie.Need-overflow_sub-result
+sub_result c = let k = m c.before in rw (up_is k) (one_less_fits (start k).requires)
 
-returns_3 : tie.Need-returns-3
+returns_3 : tie.Need-returns
 returns_3 c =
     let e = c.before in
-    rw (up_is (m e), reads_back (one_less_fits (start (m e)).pre))
-    (r_at_odd_half (a (m e)) (Up (a (m e)) (b (m e))) (start (m e)).pre.1 (nothing_left e) (sym (test_is e) ∙ c.if2.false))
+    rw (up_is (m e), reads_back (one_less_fits (start (m e)).requires))
+    (r_at_odd_half (a (m e)) (Up (a (m e)) (b (m e))) (start (m e)).requires.1 (nothing_left e) (sym (test_is e) ∙ c.if-is_even.false))
 
 pub round_small_spec : {M : Type 1} → statement M
 round_small_spec =
     tie.close
-    (tie.spec
-    mul_sum
-    add_sum
-    floor_div_requires
-    remainder_requires
-    returns
-    is_even_requires
-    returns_2
-    sub_result
-    returns_3)
+    (tie.spec mul_sum add_sum floor_div_requires remainder_requires returns is_even_requires returns_2 sub_result returns_3)

@@ -12,92 +12,73 @@ use borrow.Author.Rules.{rules}
 use Rattle.lastscan.proofs.channel_by.Statement.{statement}
 use Rattle.lastscan.proofs.channel_by.Tie as tie
 
-shared_slice_read_t3 : tie.Need-shared-slice-read-t3
+shared_slice_read_t3 : tie.Need-bounds-part-0
 shared_slice_read_t3 c = search rules
 
-cast_t4 : tie.Need-overflow-cast-t4
+cast_t4 : tie.Need-overflow_cast-result
 cast_t4 c = search rules
 
-shared_slice_read_t6 : tie.Need-shared-slice-read-t6
+shared_slice_read_t6 : tie.Need-bounds-part-1
 shared_slice_read_t6 c = search rules
 
-cast_t7 : tie.Need-overflow-cast-t7
-cast_t7 c = record { sfits = omega (arith, c.shared-slice-known3.given 1) }
+cast_t7 : tie.Need-overflow_cast-result-2
+cast_t7 c = record { sfits = omega (arith, c.shared_slice_known-3-1.given 1) }
 
-shared_slice_read_t9 : tie.Need-shared-slice-read-t9
+shared_slice_read_t9 : tie.Need-bounds-part-2
 shared_slice_read_t9 c = search rules
 
-cast_t10 : tie.Need-overflow-cast-t10
-cast_t10 c = record { sfits = omega (arith, c.shared-slice-known4.given 2) }
+cast_t10 : tie.Need-overflow_cast-result-3
+cast_t10 c = record { sfits = omega (arith, c.shared_slice_known-4-1.given 2) }
 
-shared_slice_read_signed_of : tie.Need-shared-slice-read-signed-of
+shared_slice_read_signed_of : tie.Need-bounds-part-3
 shared_slice_read_signed_of c = search rules
 
-signed_of_requires : tie.Need-signed-of-requires
-signed_of_requires c κs = omega (arith, c.shared-slice-known5.given 3)
+signed_of_requires : tie.Need-signed_of-requires
+signed_of_requires c κs = omega (arith, c.shared_slice_known-5-1.given 3)
 
-shared_slice_read_wide_of : tie.Need-shared-slice-read-wide-of
+shared_slice_read_wide_of : tie.Need-bounds-part-4
 shared_slice_read_wide_of c = search rules
 
-shared_slice_read_wide_of_2 : tie.Need-shared-slice-read-wide-of-2
+shared_slice_read_wide_of_2 : tie.Need-bounds-part-5
 shared_slice_read_wide_of_2 c = search rules
 
-wide_of_requires : tie.Need-wide-of-requires
+wide_of_requires : tie.Need-wide_of-requires
 wide_of_requires c κs = search rules
 
-cast_t19 : tie.Need-overflow-cast-t19
-cast_t19 c = record { sfits = omega (arith, c.wide_of.ensures, c.before.shared-slice-known7.given 5, c.before.before.before.before.before.before.before.before.before.requires.1.d) }
+cast_t19 : tie.Need-overflow_cast-result-4
+cast_t19 c = record { sfits = omega (arith, c.wide_of.ensures, c.before.shared_slice_known-7-1.given 5, c.before.before.before.before.before.before.before.before.before.requires.1.d) }
 
-shared_slice_read_t21 : tie.Need-shared-slice-read-t21
+shared_slice_read_t21 : tie.Need-bounds-part-6
 shared_slice_read_t21 c = search rules
 
-cast_t22 : tie.Need-overflow-cast-t22
-cast_t22 c = record { sfits = omega (arith, c.shared-slice-known8.given 6) }
+cast_t22 : tie.Need-overflow_cast-result-5
+cast_t22 c = record { sfits = omega (arith, c.shared_slice_known-8-1.given 6) }
 
-shared_slice_read_wide_of_3 : tie.Need-shared-slice-read-wide-of-3
+shared_slice_read_wide_of_3 : tie.Need-bounds-part-7
 shared_slice_read_wide_of_3 c = search rules
 
-shared_slice_read_wide_of_4 : tie.Need-shared-slice-read-wide-of-4
+shared_slice_read_wide_of_4 : tie.Need-bounds-part-8
 shared_slice_read_wide_of_4 c = search rules
 
-wide_of_requires_2 : tie.Need-wide-of-requires-2
+wide_of_requires_2 : tie.Need-wide_of-requires-2
 wide_of_requires_2 c κs = search rules
 
-cast_t28 : tie.Need-overflow-cast-t28
-cast_t28 c = record { sfits = omega (arith, c.wide-of2.ensures, c.before.shared-slice-known10.given 8, c.before.before.before.before.before.before.before.before.before.before.before.before.before.requires.1.base) }
+cast_t28 : tie.Need-overflow_cast-result-6
+cast_t28 c = record { sfits = omega (arith, c.wide_of-2.ensures, c.before.shared_slice_known-10-1.given 8, c.before.before.before.before.before.before.before.before.before.before.before.before.before.requires.1.base) }
 
 returns : tie.Need-returns
 unfolding channel_by
 returns c =
-    let base = c.wide-of2 in
+    let base = c.wide_of-2 in
     let d = c.before.before.before.before.wide_of in
     let tnl = c.before.before.before.before.before.before.before.Signed-of in
     let known = c.before.before.before.before.before.before.before.before.before.before.before.before in
     let part = known.before.args.part.now in
-    let small : (k : ℕ) → get_or part k 0 < 4294967296 = λ k. omega (arith, known.shared-slice-known.given k) in
+    let small : (k : ℕ) → get_or part k 0 < 4294967296 = λ k. omega (arith, known.shared_slice_known-1.given k) in
     let back : (k : ℕ) → to_z w64 (get_or part k 0) ≡ pos (get_or part k 0) = λ k. natural_reads_back (get_or part k 0) (omega (arith, small k)) in
-    rw (back 1, back 2, back 6, result_reads_back tnl.result tnl.type-inv, tnl.ensures, natural_reads_back d.result (omega (arith, d.ensures, small 5, known.before.requires.1.d)), natural_reads_back base.result (omega (arith, base.ensures, small 8, known.before.requires.1.base)), d.ensures, base.ensures)
+    rw (back 1, back 2, back 6, result_reads_back tnl.result tnl.type_inv, tnl.ensures, natural_reads_back d.result (omega (arith, d.ensures, small 5, known.before.requires.1.d)), natural_reads_back base.result (omega (arith, base.ensures, small 8, known.before.requires.1.base)), d.ensures, base.ensures)
 
 pub channel_by_spec : {M : Type 1} → statement M
 channel_by_spec =
     tie.close
-    (tie.spec
-    shared_slice_read_t3
-    cast_t4
-    shared_slice_read_t6
-    cast_t7
-    shared_slice_read_t9
-    cast_t10
-    shared_slice_read_signed_of
-    signed_of_requires
-    shared_slice_read_wide_of
-    shared_slice_read_wide_of_2
-    wide_of_requires
-    cast_t19
-    shared_slice_read_t21
-    cast_t22
-    shared_slice_read_wide_of_3
-    shared_slice_read_wide_of_4
-    wide_of_requires_2
-    cast_t28
-    returns)
+    (tie.spec shared_slice_read_t3 cast_t4 shared_slice_read_t6 cast_t7 shared_slice_read_t9 cast_t10 shared_slice_read_signed_of signed_of_requires shared_slice_read_wide_of shared_slice_read_wide_of_2 wide_of_requires cast_t19 shared_slice_read_t21 cast_t22 shared_slice_read_wide_of_3 shared_slice_read_wide_of_4 wide_of_requires_2 cast_t28 returns)

@@ -15,64 +15,54 @@ use Rattle.lastscan.proofs.NumberLaws.{inside_at, length_channel_part}
 use Rattle.lastscan.proofs.channels_inside.Statement.{statement}
 use Rattle.lastscan.proofs.channels_inside.Tie as tie
 
-abbrev invariant_loop : tie.invariant_loop
+abbrev invariant_loop : tie.invariant-loop-c
 invariant_loop numbers c₀ c = (c ≤ channels) × (every (inside_at numbers) c ≡ true)
 
-abbrev decreases_loop : tie.decreases_loop
+abbrev decreases_loop : tie.decreases-loop-c
 decreases_loop numbers c₀ c = channels - c
 
 -- the answer is the test of channel c's part
-answer_is_test : (c : tie.After-channel-inside invariant_loop decreases_loop)
-    → (let l = c.before.before.before in c.channel-inside.result ≡ inside_at l.before.before.args.numbers.now l.loop.c)
-answer_is_test c = c.channel-inside.ensures ∙ ap channel_numbers_inside c.before.part_of.ensures
+answer_is_test : (c : tie.After-channel_inside invariant_loop decreases_loop)
+    → (let l = c.before.before.before in c.channel_inside.result ≡ inside_at l.before.before.args.numbers.now l.loop-c.c)
+answer_is_test c = c.channel_inside.ensures ∙ ap channel_numbers_inside c.before.part_of.ensures
 
-loop_holds : tie.Need-loop-init invariant_loop decreases_loop
+loop_holds : tie.Need-loop-c-init invariant_loop decreases_loop
 loop_holds c = (omega arith, every_none _)
 
-part_of_requires : tie.Need-part-of-requires invariant_loop decreases_loop
-part_of_requires c κs = (c.before.before.before.requires, c.loop-test.true)
+part_of_requires : tie.Need-part_of-requires invariant_loop decreases_loop
+part_of_requires c κs = (c.before.before.before.requires, c.loop-c-test.true)
 
-channel_inside_requires : tie.Need-channel-inside-requires invariant_loop decreases_loop
+channel_inside_requires : tie.Need-channel_inside-requires invariant_loop decreases_loop
 channel_inside_requires c κs =
     let l = c.before.before in
-    ap length c.part_of.ensures ∙ length_channel_part l.before.before.args.numbers.now l.before.before.requires l.loop.c c.before.loop-test.true
+    ap length c.part_of.ensures ∙ length_channel_part l.before.before.args.numbers.now l.before.before.requires l.loop-c.c c.before.loop-c-test.true
 
-returns : tie.Need-returns invariant_loop decreases_loop
+returns : tie.Need-returns-then-not-channel_inside invariant_loop decreases_loop
 returns c =
     let t = c.before.before.before in
     let numbers = t.before.before.before.args.numbers.now in
-    sym (every_ended (inside_at numbers) t.before.loop.c channels (test_failed (answer_is_test c.before) c.if1.true) t.loop-test.true)
+    sym (every_ended (inside_at numbers) t.before.loop-c.c channels (test_failed (answer_is_test c.before) c.if-not-channel_inside.true-raw) t.loop-c-test.true)
 
-add_c : tie.Need-overflow-add-c invariant_loop decreases_loop
+add_c : tie.Need-overflow_step-c invariant_loop decreases_loop
 add_c c = omega arith
 
-loop_less : tie.Need-loop-smaller invariant_loop decreases_loop
-loop_less c = less_left c.before.before.before.loop-test.true
+loop_less : tie.Need-loop-c-smaller invariant_loop decreases_loop
+loop_less c = less_left c.before.before.before.loop-c-test.true
 
-loop_again : tie.Need-loop-preserved invariant_loop decreases_loop
+loop_again : tie.Need-loop-c-preserved invariant_loop decreases_loop
 loop_again c =
     let t = c.before.before.before in
     let l = t.before in
     let numbers = l.before.before.args.numbers.now in
-    (next_at_most t.loop-test.true, every_more (inside_at numbers) l.loop.c l.loop.invariant.1 ∙ test_passed (answer_is_test c.before) c.if1.false)
+    (next_at_most t.loop-c-test.true, every_more (inside_at numbers) l.loop-c.c l.loop-c.invariant.1 ∙ test_passed (answer_is_test c.before) c.if-not-channel_inside.false-raw)
 
-returns_2 : tie.Need-returns-2 invariant_loop decreases_loop
+returns_2 : tie.Need-returns invariant_loop decreases_loop
 returns_2 c =
-    let l = c.before.loop in
+    let l = c.before.loop-c in
     let numbers = c.before.before.before.args.numbers.now in
     sym l.invariant.1 ∙ ap (every (inside_at numbers)) (ended l.invariant.0 (omega arith))
 
 pub channels_inside_spec : {M : Type 1} → statement M
 channels_inside_spec =
     tie.close
-    (tie.spec
-    invariant_loop
-    decreases_loop
-    loop_holds
-    part_of_requires
-    channel_inside_requires
-    returns
-    add_c
-    loop_less
-    loop_again
-    returns_2)
+    (tie.spec invariant_loop decreases_loop loop_holds part_of_requires channel_inside_requires returns add_c loop_less loop_again returns_2)

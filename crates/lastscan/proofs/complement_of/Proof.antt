@@ -21,13 +21,13 @@ module _ {n : ℤ} (within : Bounded n (pos 8192)) where
   sum_fits : SFits w64 (n +ℤ pos 4294967296)
   sum_fits = bounded_fits (bounded_sum within (number_bounded 4294967296)) (lit< tt)
 
-add_result : tie.Need-overflow-add-result
+add_result : tie.Need-overflow_add-result
 add_result c = rw (reads_back c.ranges.n) (sum_fits c.requires)
 
-cast_result : tie.Need-overflow-cast-result
+cast_result : tie.Need-overflow_cast-result
 cast_result c = rw (reads_back c.ranges.n, reads_back (sum_fits c.requires)) (unsigned_fits (sum_not_negative c.requires) (sum_fits c.requires))
 
-cast_result_2 : tie.Need-overflow-cast-result-2
+cast_result_2 : tie.Need-overflow_cast-result-2
 cast_result_2 c = search rules
 
 returns : tie.Need-returns

@@ -5,13 +5,13 @@ use Rattle.integers.proofs.Machine.{reads_back, unsigned_fits}
 use Rattle.lastscan.proofs.halves_of.Statement.{statement}
 use Rattle.lastscan.proofs.halves_of.Tie as tie
 
-cast_wide : tie.Need-overflow-cast-wide
+cast_wide : tie.Need-overflow_cast-wide
 cast_wide c = rw (reads_back c.ranges.n) (unsigned_fits c.requires c.ranges.n)
 
-cast_t4 : tie.Need-overflow-cast-t4
+cast_t4 : tie.Need-overflow_cast-result
 cast_t4 c = rw (reads_back c.ranges.n) (record { fits = omega (arith, (unsigned_fits c.requires c.ranges.n).1.fits) })
 
-cast_t6 : tie.Need-overflow-cast-t6
+cast_t6 : tie.Need-overflow_cast-result-2
 cast_t6 c = search rules
 
 returns : tie.Need-returns

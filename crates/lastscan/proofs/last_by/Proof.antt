@@ -13,51 +13,51 @@ use Rattle.lastscan.proofs.NumberLaws.{channel_at, length_channel_part}
 use Rattle.lastscan.proofs.last_by.Statement.{statement}
 use Rattle.lastscan.proofs.last_by.Tie as tie
 
-abbrev invariant_loop : tie.invariant_loop
+abbrev invariant_loop : tie.invariant-loop-c
 invariant_loop numbers all₀ c₀ all c = (c ≤ channels) × (length all ≡ channels) × (all ≡ tabulate (channel_at numbers) c ++ drop c all₀)
 
-abbrev decreases_loop : tie.decreases_loop
+abbrev decreases_loop : tie.decreases-loop-c
 decreases_loop numbers all₀ c₀ all c = channels - c
 
-no_channel_requires : tie.Need-no-channel-requires invariant_loop decreases_loop
+no_channel_requires : tie.Need-no_channel-all-requires invariant_loop decreases_loop
 no_channel_requires c κs = search rules
 
-loop_holds : tie.Need-loop-init invariant_loop decreases_loop
+loop_holds : tie.Need-loop-c-init invariant_loop decreases_loop
 loop_holds c = (omega arith, refl, tabulated_none _ _)
 
-part_of_requires : tie.Need-part-of-requires invariant_loop decreases_loop
-part_of_requires c κs = (c.before.before.before.before.requires.0, c.loop-test.true)
+part_of_requires : tie.Need-part_of-requires invariant_loop decreases_loop
+part_of_requires c κs = (c.before.before.before.before.requires.0, c.loop-c-test.true)
 
-channel_by_requires : tie.Need-channel-by-requires invariant_loop decreases_loop
+channel_by_requires : tie.Need-channel_by-requires invariant_loop decreases_loop
 channel_by_requires c κs =
     let l = c.before.before in
     let start = l.before.before.before in
     let numbers = start.args.numbers.now in
-    rw c.part_of.ensures (length_channel_part numbers start.requires.0 l.loop.c c.before.loop-test.true, start.requires.1 l.loop.c c.before.loop-test.true)
+    rw c.part_of.ensures (length_channel_part numbers start.requires.0 l.loop-c.c c.before.loop-c-test.true, start.requires.1 l.loop-c.c c.before.loop-c-test.true)
 
-mul_all : tie.Need-overflow-mul-all invariant_loop decreases_loop
+mul_all : tie.Need-offset_bounds-all-c invariant_loop decreases_loop
 mul_all c = omega arith
 
-array_set_from_all : tie.Need-array-set-from-all invariant_loop decreases_loop
+array_set_from_all : tie.Need-bounds-all-c invariant_loop decreases_loop
 array_set_from_all c = omega arith
 
-add_c : tie.Need-overflow-add-c invariant_loop decreases_loop
+add_c : tie.Need-overflow_step-c invariant_loop decreases_loop
 add_c c = omega arith
 
-loop_less : tie.Need-loop-smaller invariant_loop decreases_loop
+loop_less : tie.Need-loop-c-smaller invariant_loop decreases_loop
 loop_less c = omega arith
 
-loop_again : tie.Need-loop-preserved invariant_loop decreases_loop
+loop_again : tie.Need-loop-c-preserved invariant_loop decreases_loop
 loop_again c =
     let l = c.before.before.before in
     let numbers = l.before.before.before.args.numbers.now in
-    let i = l.loop.c in (
+    let i = l.loop-c.c in (
       omega arith,
-      length-set l.loop.all i c.channel-by.result ∙ l.loop.invariant.1,
-      filled_by_store (channel_at numbers) _ i (omega arith) l.loop.invariant.2 (c.channel-by.ensures ∙ ap channel_by c.before.part_of.ensures),
+      length-set l.loop-c.all i c.channel_by.result ∙ l.loop-c.invariant.1,
+      filled_by_store (channel_at numbers) _ i (omega arith) l.loop-c.invariant.2 (c.channel_by.ensures ∙ ap channel_by c.before.part_of.ensures),
     )
 
-shared_slice_read_t12 : tie.Need-shared-slice-read-t12 invariant_loop decreases_loop
+shared_slice_read_t12 : tie.Need-bounds-numbers-0 invariant_loop decreases_loop
 shared_slice_read_t12 c = omega arith
 
 returns : tie.Need-returns invariant_loop decreases_loop
@@ -65,23 +65,10 @@ unfolding last_by
 returns c =
     let l = c.before.before in
     let numbers = l.before.before.before.args.numbers.now in
-    let last : l.loop.c ≡ channels = omega arith in
-    rw (tabulated_to_end (channel_at numbers) channels _ last (omega arith) l.loop.invariant.2)
+    let last : l.loop-c.c ≡ channels = omega arith in
+    rw (tabulated_to_end (channel_at numbers) channels _ last (omega arith) l.loop-c.invariant.2)
 
 pub last_by_spec : {M : Type 1} → statement M
 last_by_spec =
     tie.close
-    (tie.spec
-    invariant_loop
-    decreases_loop
-    no_channel_requires
-    loop_holds
-    part_of_requires
-    channel_by_requires
-    mul_all
-    array_set_from_all
-    add_c
-    loop_less
-    loop_again
-    shared_slice_read_t12
-    returns)
+    (tie.spec invariant_loop decreases_loop no_channel_requires loop_holds part_of_requires channel_by_requires mul_all array_set_from_all add_c loop_less loop_again shared_slice_read_t12 returns)

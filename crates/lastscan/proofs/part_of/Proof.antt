@@ -6,25 +6,25 @@ use Rattle.lastscan.specs.Numbers.{channel_numbers}
 use Rattle.lastscan.proofs.part_of.Statement.{statement}
 use Rattle.lastscan.proofs.part_of.Tie as tie
 
-mul_at : tie.Need-overflow-mul-at
+mul_at : tie.Need-overflow_mul-at
 mul_at c = search rules
 
-add_at : tie.Need-overflow-add-at
+add_at : tie.Need-overflow_add-at
 add_at c = search rules
 
-add_result : tie.Need-overflow-add-result
+add_result : tie.Need-overflow_add-result
 add_result c = search rules
 
-mul_result : tie.Need-overflow-mul-result
+mul_result : tie.Need-offset_bounds-numbers-at
 mul_result c = search rules
 
-sub_result : tie.Need-overflow-sub-result
+sub_result : tie.Need-slice_bounds-result-count
 sub_result c = search rules
 
-part_result_start : tie.Need-slice-bounds-result-start
+part_result_start : tie.Need-slice_bounds-result-start
 part_result_start c = search rules
 
-part_result_end : tie.Need-slice-bounds-result-end
+part_result_end : tie.Need-slice_bounds-result-end
 part_result_end c = search rules
 
 returns : tie.Need-returns
@@ -33,12 +33,4 @@ returns c = let a = c.before.args in part_is_take a.numbers.now (1 + channel_num
 pub part_of_spec : {M : Type 1} → statement M
 part_of_spec =
     tie.close
-    (tie.spec
-    mul_at
-    add_at
-    add_result
-    mul_result
-    sub_result
-    part_result_start
-    part_result_end
-    returns)
+    (tie.spec mul_at add_at add_result mul_result sub_result part_result_start part_result_end returns)

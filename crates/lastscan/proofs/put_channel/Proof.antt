@@ -5,16 +5,16 @@ use Rattle.lists.specs.Build.{put}
 use Rattle.lastscan.proofs.put_channel.Statement.{statement}
 use Rattle.lastscan.proofs.put_channel.Tie as tie
 
-numbers_of_channel_requires : tie.Need-numbers-of-channel-requires
+numbers_of_channel_requires : tie.Need-numbers_of_channel-numbers-requires
 numbers_of_channel_requires c κs = search rules
 
-slice_aggregate_copy : tie.Need-slice-aggregate-copy
+slice_aggregate_copy : tie.Need-slice_bounds-copy-end
 slice_aggregate_copy c = search rules
 
 copy_requires : tie.Need-copy-requires
 copy_requires c κs = search rules
 
-same_length : tie.Need-same-length
+same_length : tie.Need-shape_of-out
 same_length c = search rules
 
 returns : tie.Need-returns
@@ -22,7 +22,7 @@ returns c =
     let copied = c.before.before in
     let numbers = copied.before.before.before in
     let a = numbers.before.before.args in
-    copied.copy.ensures ∙ ap (put a.out.now a.at) numbers.numbers-of-channel.ensures
+    copied.copy.ensures ∙ ap (put a.out-1.now a.at) numbers.numbers_of_channel-numbers.ensures
 
 pub put_channel_spec : {M : Type 1} → statement M
 put_channel_spec =

@@ -15,86 +15,86 @@ use borrow.Author.Rules.{rules}
 use Rattle.lines.proofs.calibrate_record.Statement.{statement}
 use Rattle.lines.proofs.calibrate_record.Tie as tie
 
-length_product : (c : tie.After-feed-arg) → length c.before.before.args.product.now ≡ product_size
+length_product : (c : tie.After-feed-arg-1) → length c.before.before.args.product.now ≡ product_size
 length_product c = omega arith
 
 -- with a buffer of this length the calibrator and the answer are those of the definitions
-module _ (c : tie.After-feed) where
+module _ (c : tie.After-feed-fed) where
   same_length : length c.before.before.before.args.product.now ≡ length empty_product
   unfolding empty_product
   same_length = length_product c.before ∙ sym (length-replicate {A = ℕ} product_size 0)
 
-  calibrator_is : let a = c.before.before.before.args in c.feed.result.calibrator ≡ (record_fed a.calibrator a.scan.now).calibrator
-  calibrator_is = let a = c.before.before.before.args in c.feed.ensures.0.calibrator_is ∙ calibrator_of_length a.calibrator a.scan.now a.product.now empty_product same_length
+  calibrator_is : let a = c.before.before.before.args in c.feed-fed.result.calibrator ≡ (record_fed a.calibrator a.scan.now).calibrator
+  calibrator_is = let a = c.before.before.before.args in c.feed-fed.ensures.0.calibrator_is ∙ calibrator_of_length a.calibrator a.scan.now a.product.now empty_product same_length
 
-  reply_is : let a = c.before.before.before.args in reply_of c.feed.result.answer ≡ (record_fed a.calibrator a.scan.now).outcome.reply
-  reply_is = let a = c.before.before.before.args in c.feed.ensures.0.reply_is ∙ reply_of_length a.calibrator a.scan.now a.product.now empty_product same_length
+  reply_is : let a = c.before.before.before.args in reply_of c.feed-fed.result.answer ≡ (record_fed a.calibrator a.scan.now).outcome.reply
+  reply_is = let a = c.before.before.before.args in c.feed-fed.ensures.0.reply_is ∙ reply_of_length a.calibrator a.scan.now a.product.now empty_product same_length
 
 -- the sizes by an answer
 abbrev answered : Calibrator → Reply → Calibrated
 answered next reply = record { calibrator = next; output = output_size reply; errors = length (error_line reply) }
 
-module _ (c : tie.After-feed) where
+module _ (c : tie.After-feed-fed) where
   step_of_feed : let a = c.before.before.before.args in
-      answered c.feed.result.calibrator (reply_of c.feed.result.answer) ≡ calibrated_of a.calibrator a.scan.now
+      answered c.feed-fed.result.calibrator (reply_of c.feed-fed.result.answer) ≡ calibrated_of a.calibrator a.scan.now
   unfolding calibrated_of calibrated_line
   step_of_feed = ap₂ answered (calibrator_is c) (reply_is c)
 
-  line_of_feed : let a = c.before.before.before.args in error_line (reply_of c.feed.result.answer) ≡ calibrated_line a.calibrator a.scan.now
+  line_of_feed : let a = c.before.before.before.args in error_line (reply_of c.feed-fed.result.answer) ≡ calibrated_line a.calibrator a.scan.now
   unfolding calibrated_line
   line_of_feed = ap error_line (reply_is c)
 
-feed_requires : tie.Need-feed-requires
+feed_requires : tie.Need-feed-fed-requires
 feed_requires c κs = search rules
 
-enum_told : tie.Need-enum-told
+enum_told : tie.Need-enum_told-1
 enum_told c = search rules
 
-enum_told_2 : tie.Need-enum-told-2
+enum_told_2 : tie.Need-enum_told-in-Refused
 enum_told_2 c = search rules
 
-answer_number_requires : tie.Need-answer-number-requires
+answer_number_requires : tie.Need-answer_number-requires
 answer_number_requires c κs = search rules
 
-refused_line_requires : tie.Need-refused-line-requires
+refused_line_requires : tie.Need-refused_line-requires
 refused_line_requires c κs = search rules
 
-returns : tie.Need-returns
+returns : tie.Need-returns-in-Accepted
 unfolding output_size error_line
 returns c =
     let fed = c.before.before.before in
     let a = fed.before.before.before.args in
-    let told = ap reply_of (sym c.enum_told.given.1) in
-    let long : length fed.feed.new.1.1.0 ≡ product_size = fed.feed.auto.1.1.0 ∙ length_product fed.before in (
+    let told = ap reply_of (sym c.enum_told-1.given.1) in
+    let long : length fed.feed-fed.new.1.1.0 ≡ product_size = fed.feed-fed.auto.1.1.0 ∙ length_product fed.before in (
       (omega arith, simp length-take (omega arith)),
       (
         (omega arith, refl),
         (
-          ap (answered fed.feed.result.calibrator) told ∙ step_of_feed fed,
-          fed.feed.ensures.0.buffer_is,
+          ap (answered fed.feed-fed.result.calibrator) told ∙ step_of_feed fed,
+          fed.feed-fed.ensures.0.buffer_is,
           ap (λ (reply : Reply). put a.line.now 0 (error_line reply)) told ∙ ap (put a.line.now 0) (line_of_feed fed),
-          fed.feed.ensures.1,
+          fed.feed-fed.ensures.1,
         ),
       ),
     )
 
-returns_2 : tie.Need-returns-2
+returns_2 : tie.Need-returns-in-Refused
 unfolding output_size
 returns_2 c =
     let told = c.before.before.before in
     let fed = told.before.before.before in
     let a = fed.before.before.before.args in
-    let line = refused_line_of_error told.enum-told2.given.1 c.before.before.answer-number.ensures in (
+    let line = refused_line_of_error told.enum_told-in-Refused-1.given.1 c.before.before.answer_number.ensures in (
       (omega arith, refl),
       (
-        c.refused-line.ensures.0,
+        c.refused_line.ensures.0,
         (
-          ap₂ (λ (output errors : ℕ). record { calibrator = fed.feed.result.calibrator; output = output; errors = errors })
-              (ap (λ (answer : Answer). output_size (reply_of answer)) (sym told.enum-told2.given.1)) (c.refused-line.ensures.1.0 ∙ ap length line)
+          ap₂ (λ (output errors : ℕ). record { calibrator = fed.feed-fed.result.calibrator; output = output; errors = errors })
+              (ap (λ (answer : Answer). output_size (reply_of answer)) (sym told.enum_told-in-Refused-1.given.1)) (c.refused_line.ensures.1.0 ∙ ap length line)
               ∙ step_of_feed fed,
-          fed.feed.ensures.0.buffer_is,
-          c.refused-line.ensures.1.1 ∙ ap (put a.line.now 0) (line ∙ line_of_feed fed),
-          fed.feed.ensures.1,
+          fed.feed-fed.ensures.0.buffer_is,
+          c.refused_line.ensures.1.1 ∙ ap (put a.line.now 0) (line ∙ line_of_feed fed),
+          fed.feed-fed.ensures.1,
         ),
       ),
     )
@@ -102,11 +102,4 @@ returns_2 c =
 pub calibrate_record_spec : {M : Type 1} → statement M
 calibrate_record_spec =
     tie.close
-    (tie.spec
-    feed_requires
-    enum_told
-    enum_told_2
-    answer_number_requires
-    refused_line_requires
-    returns
-    returns_2)
+    (tie.spec feed_requires enum_told enum_told_2 answer_number_requires refused_line_requires returns returns_2)

@@ -11,19 +11,19 @@ use borrow.Author.Rules.{rules}
 use Rattle.lines.proofs.list_record.Statement.{statement}
 use Rattle.lines.proofs.list_record.Tie as tie
 
-line_of_feed : (c : tie.After-feed)
+line_of_feed : (c : tie.After-feed-fed)
     → let a = c.before.before.before.args in
-    reply_line (reply_of c.feed.result.answer) c.feed.new.1.1.0 ≡ listed_line a.calibrator a.scan.now
+    reply_line (reply_of c.feed-fed.result.answer) c.feed-fed.new.1.1.0 ≡ listed_line a.calibrator a.scan.now
 unfolding listed_line empty_product
-line_of_feed c = ap₂ reply_line c.feed.ensures.0.reply_is c.feed.ensures.0.buffer_is
+line_of_feed c = ap₂ reply_line c.feed-fed.ensures.0.reply_is c.feed-fed.ensures.0.buffer_is
 
-slice_aggregate_feed : tie.Need-slice-aggregate-feed
+slice_aggregate_feed : tie.Need-slice_bounds-feed-end
 slice_aggregate_feed c = search rules
 
-feed_requires : tie.Need-feed-requires
+feed_requires : tie.Need-feed-fed-requires
 feed_requires c κs = search rules
 
-answer_line_requires : tie.Need-answer-line-requires
+answer_line_requires : tie.Need-answer_line-size-requires
 answer_line_requires c κs = search rules
 
 returns : tie.Need-returns
@@ -32,13 +32,13 @@ returns c =
     let fed = c.before.before.before.before.before in
     let a = fed.before.before.before.args in
     let line = line_of_feed fed in
-    let next = fed.feed.ensures.0.calibrator_is in (
-      c.answer-line.ensures.0,
+    let next = fed.feed-fed.ensures.0.calibrator_is in (
+      c.answer_line-size.ensures.0,
       (
         ap₂ (λ (calibrator : Calibrator) (size : ℕ). record { calibrator = calibrator; size = size }) next
-            (c.answer-line.ensures.1.0 ∙ ap length line),
-        c.answer-line.ensures.1.1 ∙ ap (put a.out.now 0) line,
-        fed.feed.ensures.1,
+            (c.answer_line-size.ensures.1.0 ∙ ap length line),
+        c.answer_line-size.ensures.1.1 ∙ ap (put a.out.now 0) line,
+        fed.feed-fed.ensures.1,
       ),
     )
 

@@ -6,55 +6,44 @@ use borrow.Author.Rules.{rules}
 use Rattle.lines.proofs.opening_line.Statement.{statement}
 use Rattle.lines.proofs.opening_line.Tie as tie
 
-enum_told : tie.Need-enum-told
+enum_told : tie.Need-enum_told-1
 enum_told c = search rules
 
-enum_told_2 : tie.Need-enum-told-2
+enum_told_2 : tie.Need-enum_told-in-LengthWrong
 enum_told_2 c = search rules
 
-refused_line_requires : tie.Need-refused-line-requires
+refused_line_requires : tie.Need-refused_line-requires
 refused_line_requires c κs = search rules
 
-enum_told_3 : tie.Need-enum-told-3
+enum_told_3 : tie.Need-enum_told-in-FieldWrong
 enum_told_3 c = search rules
 
-refused_line_requires_2 : tie.Need-refused-line-requires-2
+refused_line_requires_2 : tie.Need-refused_line-requires-in-FieldWrong
 refused_line_requires_2 c κs = search rules
 
-enum_told_4 : tie.Need-enum-told-4
+enum_told_4 : tie.Need-enum_told-in-ValueOutside
 enum_told_4 c = search rules
 
-refused_line_requires_3 : tie.Need-refused-line-requires-3
+refused_line_requires_3 : tie.Need-refused_line-requires-in-ValueOutside
 refused_line_requires_3 c κs = search rules
 
-returns : tie.Need-returns
+returns : tie.Need-returns-in-Accepted
 unfolding opening_line
-returns c = rw c.enum_told.given.1 ((omega arith, refl), (refl, refl))
+returns c = rw c.enum_told-1.given.1 ((omega arith, refl), (refl, refl))
 
-returns_2 : tie.Need-returns-2
+returns_2 : tie.Need-returns-in-LengthWrong
 unfolding opening_line
-returns_2 c = rw c.before.before.enum-told2.given.1 c.refused-line.ensures
+returns_2 c = rw c.before.before.enum_told-in-LengthWrong-1.given.1 c.refused_line.ensures
 
-returns_3 : tie.Need-returns-3
+returns_3 : tie.Need-returns-in-FieldWrong
 unfolding opening_line
-returns_3 c = rw c.before.before.enum-told3.given.1 c.refused-line2.ensures
+returns_3 c = rw c.before.before.enum_told-in-FieldWrong-1.given.1 c.refused_line-in-FieldWrong.ensures
 
-returns_4 : tie.Need-returns-4
+returns_4 : tie.Need-returns-in-ValueOutside
 unfolding opening_line
-returns_4 c = rw c.before.before.enum-told4.given.1 c.refused-line3.ensures
+returns_4 c = rw c.before.before.enum_told-in-ValueOutside-1.given.1 c.refused_line-in-ValueOutside.ensures
 
 pub opening_line_spec : {M : Type 1} → statement M
 opening_line_spec =
     tie.close
-    (tie.spec
-    enum_told
-    enum_told_2
-    refused_line_requires
-    enum_told_3
-    refused_line_requires_2
-    enum_told_4
-    refused_line_requires_3
-    returns
-    returns_2
-    returns_3
-    returns_4)
+    (tie.spec enum_told enum_told_2 refused_line_requires enum_told_3 refused_line_requires_2 enum_told_4 refused_line_requires_3 returns returns_2 returns_3 returns_4)

@@ -11,13 +11,13 @@ use borrow.Author.Rules.{rules}
 use Rattle.lines.proofs.put_labelled.Statement.{statement}
 use Rattle.lines.proofs.put_labelled.Tie as tie
 
-put_text_requires : tie.Need-put-text-requires
+put_text_requires : tie.Need-put_text-next-requires
 put_text_requires c κs = search rules
 
-put_decimal_requires : tie.Need-put-decimal-requires
+put_decimal_requires : tie.Need-put_decimal-requires
 put_decimal_requires c κs = search rules
 
-same_length : tie.Need-same-length
+same_length : tie.Need-shape_of-out
 same_length c = search rules
 
 returns : tie.Need-returns
@@ -25,14 +25,14 @@ returns c =
     let w = c.before.before in
     let t = w.before.before.before.before in
     let a = t.before.before.before.before.args in
-    let out = a.out.now in
+    let out = a.out-1.now in
     let label = a.label.now in
     let digits = decimal a.n in (
       omega arith,
       omega (arith, length-append label digits),
-      w.put-decimal.ensures.2
-          ∙ ap (λ (l : List ℕ). put l t.put-text.result digits) t.put-text.ensures.1
-          ∙ put_after_put out label digits a.at t.put-text.result (sym t.put-text.ensures.0) (omega arith),
+      w.put_decimal.ensures.2
+          ∙ ap (λ (l : List ℕ). put l t.put_text-next.result digits) t.put_text-next.ensures.1
+          ∙ put_after_put out label digits a.at t.put_text-next.result (sym t.put_text-next.ensures.0) (omega arith),
     )
 
 pub put_labelled_spec : {M : Type 1} → statement M

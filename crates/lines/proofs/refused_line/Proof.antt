@@ -7,16 +7,10 @@ use borrow.Author.Rules.{rules}
 use Rattle.lines.proofs.refused_line.Statement.{statement}
 use Rattle.lines.proofs.refused_line.Tie as tie
 
-slice_aggregate_put_labelled : tie.Need-slice-aggregate-put-labelled
-slice_aggregate_put_labelled c = search rules
-
-put_labelled_requires : tie.Need-put-labelled-requires
+put_labelled_requires : tie.Need-put_labelled-end-requires
 put_labelled_requires c κs = search rules
 
-slice_aggregate_put_text : tie.Need-slice-aggregate-put-text
-slice_aggregate_put_text c = search rules
-
-put_text_requires : tie.Need-put-text-requires
+put_text_requires : tie.Need-put_text-requires
 put_text_requires c κs = search rules
 
 returns : tie.Need-returns
@@ -24,16 +18,11 @@ unfolding refused_line
 returns c =
     let w = c.before.before.before.before in
     let a = w.before.before.before.before.args in
-    let begun = begins a.out.now (ascii "refused " ++ decimal a.number) w.put-labelled.ensures.2 w.put-labelled.ensures.1 in
-    let whole = with_part begun (omega arith) (ascii "\n") c.put-text.ensures.1 c.put-text.ensures.0 in
+    let begun = begins a.out.now (ascii "refused " ++ decimal a.number) w.put_labelled-end.ensures.2 w.put_labelled-end.ensures.1 in
+    let whole = with_part begun (omega arith) (ascii "\n") c.put_text.ensures.1 c.put_text.ensures.0 in
     (counts_line whole (omega arith), (whole.size, whole.whole))
 
 pub refused_line_spec : {M : Type 1} → statement M
 refused_line_spec =
     tie.close
-    (tie.spec
-    slice_aggregate_put_labelled
-    put_labelled_requires
-    slice_aggregate_put_text
-    put_text_requires
-    returns)
+    (tie.spec put_labelled_requires put_text_requires returns)

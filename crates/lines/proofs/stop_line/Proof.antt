@@ -7,47 +7,33 @@ use borrow.Author.Rules.{rules}
 use Rattle.lines.proofs.stop_line.Statement.{statement}
 use Rattle.lines.proofs.stop_line.Tie as tie
 
-enum_told : tie.Need-enum-told
+enum_told : tie.Need-enum_told-1
 enum_told c = search rules
 
-slice_aggregate_put_text : tie.Need-slice-aggregate-put-text
-slice_aggregate_put_text c = search rules
-
-put_text_requires : tie.Need-put-text-requires
+put_text_requires : tie.Need-put_text-requires
 put_text_requires c κs = search rules
 
-enum_told_2 : tie.Need-enum-told-2
+enum_told_2 : tie.Need-enum_told-in-OutputUnwritten
 enum_told_2 c = search rules
 
-slice_aggregate_put_text_2 : tie.Need-slice-aggregate-put-text-2
-slice_aggregate_put_text_2 c = search rules
-
-put_text_requires_2 : tie.Need-put-text-requires-2
+put_text_requires_2 : tie.Need-put_text-requires-in-OutputUnwritten
 put_text_requires_2 c κs = search rules
 
-returns : tie.Need-returns
+returns : tie.Need-returns-in-InputUnread
 unfolding stop_line
 returns c =
     let w = c.before.before.before in
-    let line = begins w.before.before.args.out.now (stop_line InputUnread) c.put-text.ensures.1 c.put-text.ensures.0 in
-    rw w.enum_told.given.1 (counts_line line (omega arith), (line.size, line.whole))
+    let line = begins w.before.before.args.out.now (stop_line InputUnread) c.put_text.ensures.1 c.put_text.ensures.0 in
+    rw w.enum_told-1.given.1 (counts_line line (omega arith), (line.size, line.whole))
 
-returns_2 : tie.Need-returns-2
+returns_2 : tie.Need-returns-in-OutputUnwritten
 unfolding stop_line
 returns_2 c =
     let w = c.before.before.before in
-    let line = begins w.before.before.args.out.now (stop_line OutputUnwritten) c.put-text2.ensures.1 c.put-text2.ensures.0 in
-    rw w.enum-told2.given.1 (counts_line line (omega arith), (line.size, line.whole))
+    let line = begins w.before.before.args.out.now (stop_line OutputUnwritten) c.put_text-in-OutputUnwritten.ensures.1 c.put_text-in-OutputUnwritten.ensures.0 in
+    rw w.enum_told-in-OutputUnwritten-1.given.1 (counts_line line (omega arith), (line.size, line.whole))
 
 pub stop_line_spec : {M : Type 1} → statement M
 stop_line_spec =
     tie.close
-    (tie.spec
-    enum_told
-    slice_aggregate_put_text
-    put_text_requires
-    enum_told_2
-    slice_aggregate_put_text_2
-    put_text_requires_2
-    returns
-    returns_2)
+    (tie.spec enum_told put_text_requires enum_told_2 put_text_requires_2 returns returns_2)

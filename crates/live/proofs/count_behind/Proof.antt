@@ -14,85 +14,73 @@ use Rattle.live.proofs.count_behind.Statement.{statement}
 use Rattle.live.proofs.count_behind.Tie as tie
 
 -- ---- the bytes are a state
-abbrev start_of : tie.Else1 → tie.Start
+abbrev start_of : tie.Else-not-is_state → tie.Start
 start_of x = x.before.before.before
 
-is_state_lem : (x : tie.Else1) → is_state (start_of x).args.state.now ≡ true
-is_state_lem x = test_passed x.before.is_state_lem.ensures x.if1.false
+is_state_lem : (x : tie.Else-not-is_state) → is_state (start_of x).args.state.now ≡ true
+is_state_lem x = test_passed x.before.is_state_lem.ensures x.if-not-is_state.false-raw
 
-says : (x : tie.Else1) → IsStateSays (start_of x).args.state.now
-says x = is_state_says (start_of x).args.state.now (λ k. (x.before.before.shared-slice-known.given k).fits) (is_state_lem x)
+says : (x : tie.Else-not-is_state) → IsStateSays (start_of x).args.state.now
+says x = is_state_says (start_of x).args.state.now (λ k. (x.before.before.shared_slice_known-1.given k).fits) (is_state_lem x)
 
 -- the answer is that of the state's calibrator
-answered : (x : tie.After-count-behind) → let a = (start_of x.before.before).args in found_by x.count-behind.result ≡ found_in a.state.now a.channel a.wanted
+answered : (x : tie.After-count_behind-answer) → let a = (start_of x.before.before).args in found_by x.count_behind-answer.result ≡ found_in a.state.now a.channel a.wanted
 answered x =
     let last = x.before in
     let test = last.before in
     let a = (start_of test).args in
-    x.count-behind.ensures
-    ∙ ap (λ (l : LastScan). count_behind l a.channel a.wanted) last.last-in.ensures
+    x.count_behind-answer.ensures
+    ∙ ap (λ (l : LastScan). count_behind l a.channel a.wanted) last.last_in-last.ensures
     ∙ sym (state_found a.state.now a.channel a.wanted (is_state_lem test))
 
-is_state_requires : tie.Need-is-state-requires
+is_state_requires : tie.Need-is_state-requires
 is_state_requires c κs = search rules
 
-returns : tie.Need-returns
+returns : tie.Need-returns-then-not-is_state
 returns c =
     let test = c.before in
     let a = test.before.before.args in
-    found_leaves (sym (no_state_found a.state.now a.channel a.wanted (test_failed test.is_state_lem.ensures c.if1.true))) a.count.now
+    found_leaves (sym (no_state_found a.state.now a.channel a.wanted (test_failed test.is_state_lem.ensures c.if-not-is_state.true-raw))) a.count.now
 
-last_in_requires : tie.Need-last-in-requires
+last_in_requires : tie.Need-last_in-last-requires
 last_in_requires c κs = ((says c).long, (says c).inside)
 
-count_behind_requires : tie.Need-count-behind-requires
-count_behind_requires c κs = subst LastRange (sym c.last-in.ensures) (says c.before).sound.last
+count_behind_requires : tie.Need-count_behind-answer-requires
+count_behind_requires c κs = subst LastRange (sym c.last_in-last.ensures) (says c.before).sound.last
 
-enum_known_answer : tie.Need-enum-known-answer
+enum_known_answer : tie.Need-enum_known-answer
 enum_known_answer c = search rules
 
-enum_told : tie.Need-enum-told
+enum_told : tie.Need-enum_told-1
 enum_told c = search rules
 
-enum_told_2 : tie.Need-enum-told-2
+enum_told_2 : tie.Need-enum_told-in-ChannelOutside
 enum_told_2 c = search rules
 
-enum_told_3 : tie.Need-enum-told-3
+enum_told_3 : tie.Need-enum_told-in-NotCalibrated
 enum_told_3 c = search rules
 
-returns_2 : tie.Need-returns-2
+returns_2 : tie.Need-returns-in-Count
 returns_2 c =
     let found = c.before.before.before in
-    found_leaves (sym (ap found_by c.before.answer.given.1) ∙ answered found) (start_of found.before.before).args.count.now
+    found_leaves (sym (ap found_by c.before.answer-1.given.1) ∙ answered found) (start_of found.before.before).args.count.now
 
-returns_3 : tie.Need-returns-3
+returns_3 : tie.Need-returns-in-NoCount
 returns_3 c =
     let found = c.before.before in
-    found_leaves (sym (ap found_by c.enum_told.given.1) ∙ answered found) (start_of found.before.before).args.count.now
+    found_leaves (sym (ap found_by c.enum_told-1.given.1) ∙ answered found) (start_of found.before.before).args.count.now
 
-returns_4 : tie.Need-returns-4
+returns_4 : tie.Need-returns-in-ChannelOutside
 returns_4 c =
     let found = c.before.before in
-    found_leaves (sym (ap found_by c.enum-told2.given.1) ∙ answered found) (start_of found.before.before).args.count.now
+    found_leaves (sym (ap found_by c.enum_told-in-ChannelOutside-1.given.1) ∙ answered found) (start_of found.before.before).args.count.now
 
-returns_5 : tie.Need-returns-5
+returns_5 : tie.Need-returns-in-NotCalibrated
 returns_5 c =
     let found = c.before.before in
-    found_leaves (sym (ap found_by c.enum-told3.given.1) ∙ answered found) (start_of found.before.before).args.count.now
+    found_leaves (sym (ap found_by c.enum_told-in-NotCalibrated-1.given.1) ∙ answered found) (start_of found.before.before).args.count.now
 
 pub count_behind_spec : {M : Type 1} → statement M
 count_behind_spec =
     tie.close
-    (tie.spec
-    is_state_requires
-    returns
-    last_in_requires
-    count_behind_requires
-    enum_known_answer
-    enum_told
-    enum_told_2
-    enum_told_3
-    returns_2
-    returns_3
-    returns_4
-    returns_5)
+    (tie.spec is_state_requires returns last_in_requires count_behind_requires enum_known_answer enum_told enum_told_2 enum_told_3 returns_2 returns_3 returns_4 returns_5)

@@ -18,51 +18,51 @@ use Rattle.live.proofs.feed.Statement.{statement}
 use Rattle.live.proofs.feed.Tie as tie
 
 abbrev feed_of : tie.Start → Feed
-feed_of start = record { scan = start.args.scan.now; buffer = start.args.buffer.now }
+feed_of start = record { scan = start.args.scan.now; buffer = start.args.buffer-1.now }
 
 -- ---- the bytes are a state
-abbrev start_of : tie.Else1 → tie.Start
+abbrev start_of : tie.Else-not-is_state → tie.Start
 start_of x = x.before.before.before.before.before.before
 
-is_state_lem : (x : tie.Else1) → is_state (start_of x).args.state.now ≡ true
-is_state_lem x = test_passed x.before.is_state_lem.ensures x.if1.false
+is_state_lem : (x : tie.Else-not-is_state) → is_state (start_of x).args.state-1.now ≡ true
+is_state_lem x = test_passed x.before.is_state_lem.ensures x.if-not-is_state.false-raw
 
-says : (x : tie.Else1) → IsStateSays (start_of x).args.state.now
-says x = is_state_says (start_of x).args.state.now (λ k. (x.before.before.before.before.before.slice-known.given k).fits) (is_state_lem x)
+says : (x : tie.Else-not-is_state) → IsStateSays (start_of x).args.state-1.now
+says x = is_state_says (start_of x).args.state-1.now (λ k. (x.before.before.before.before.before.slice_known-1.given k).fits) (is_state_lem x)
 
-is_state_requires : tie.Need-is-state-requires
+is_state_requires : tie.Need-is_state-requires
 is_state_requires c κs = search rules
 
-same_length : tie.Need-same-length
+same_length : tie.Need-shape_of-state-then-not-is_state
 same_length c = search rules
 
-returns : tie.Need-returns
+returns : tie.Need-returns-then-not-is_state
 returns c =
     let test = c.before in
     let start = test.before.before.before.before.before in
-    no_state_leaves start.args.state.now (feed_of start) (test_failed test.is_state_lem.ensures c.if1.true)
+    no_state_leaves start.args.state-1.now (feed_of start) (test_failed test.is_state_lem.ensures c.if-not-is_state.true-raw)
 
-table_in_requires : tie.Need-table-in-requires
+table_in_requires : tie.Need-table_in-table-requires
 table_in_requires c κs = (says c.before).long
 
-bias_in_requires : tie.Need-bias-in-requires
+bias_in_requires : tie.Need-bias_in-bias-requires
 bias_in_requires c κs = (says c.before.before.before).long
 
-window_in_requires : tie.Need-window-in-requires
+window_in_requires : tie.Need-window_in-window-requires
 window_in_requires c κs = (says c.before.before.before.before.before).long
 
-last_in_requires : tie.Need-last-in-requires
+last_in_requires : tie.Need-last_in-last-requires
 last_in_requires c κs =
     let state = says c.before.before.before.before.before.before.before in
     (state.long, state.inside)
 
-slice_aggregate_feed_read : tie.Need-slice-aggregate-feed-read
+slice_aggregate_feed_read : tie.Need-slice_bounds-feed_read-end
 slice_aggregate_feed_read c = search rules
 
-slice_aggregate_feed_read_2 : tie.Need-slice-aggregate-feed-read-2
+slice_aggregate_feed_read_2 : tie.Need-slice_bounds-feed_read-end-2
 slice_aggregate_feed_read_2 c = search rules
 
-feed_read_requires : tie.Need-feed-read-requires
+feed_read_requires : tie.Need-feed_read-requires
 feed_read_requires c κs =
     let last = c.before.before.before.before in
     let window = last.before.before in
@@ -70,20 +70,20 @@ feed_read_requires c κs =
     let table = bias.before.before in
     let state = says table.before.before in
     let sound = state.sound in (
-      subst AcceptedTable (sym table.table-in.ensures) sound.table,
-      subst AcceptedBias (sym bias.bias-in.ensures) sound.bias,
-      subst WindowRange (sym window.window-in.ensures) sound.window,
-      subst LastRange (sym last.last-in.ensures) sound.last,
+      subst AcceptedTable (sym table.table_in-table.ensures) sound.table-1,
+      subst AcceptedBias (sym bias.bias_in-bias.ensures) sound.bias-1,
+      subst WindowRange (sym window.window_in-window.ensures) sound.window,
+      subst LastRange (sym last.last_in-last.ensures) sound.last,
       state.long,
     )
 
-same_length_2 : tie.Need-same-length-2
+same_length_2 : tie.Need-shape_of-state
 same_length_2 c = search rules
 
-same_length_3 : tie.Need-same-length-3
+same_length_3 : tie.Need-shape_of-buffer
 same_length_3 c = search rules
 
-returns_2 : tie.Need-returns-2
+returns_2 : tie.Need-returns
 returns_2 c =
     let fed = c.before.before.before.before in
     let last = fed.before.before.before.before.before in
@@ -92,26 +92,13 @@ returns_2 c =
     let table = bias.before.before in
     let test = table.before.before in
     let start = start_of test in
-    let state = start.args.state.now in
-    let read_back : calibrator_with table.table-in.result bias.bias-in.result window.window-in.result last.last-in.result ≡ calibrator_in state =
-    rw (table.table-in.ensures, bias.bias-in.ensures, window.window-in.ensures, last.last-in.ensures) in
+    let state = start.args.state-1.now in
+    let read_back : calibrator_with table.table_in-table.result bias.bias_in-bias.result window.window_in-window.result last.last_in-last.result ≡ calibrator_in state =
+    rw (table.table_in-table.ensures, bias.bias_in-bias.ensures, window.window_in-window.ensures, last.last_in-last.ensures) in
     state_leaves state (feed_of start) (is_state_lem test)
-    (subst (λ (d : Calibrator). CallLeaves (left_by state (step d (feed_of start))) fed.feed-read.result fed.feed-read.new.1.1.1.1.0 fed.feed-read.new.1.1.1.1.1.1.0) read_back fed.feed-read.ensures)
+    (subst (λ (d : Calibrator). CallLeaves (left_by state (step d (feed_of start))) fed.feed_read.result fed.feed_read.new.1.1.1.1.0 fed.feed_read.new.1.1.1.1.1.1.0) read_back fed.feed_read.ensures)
 
 pub feed_spec : {M : Type 1} → statement M
 feed_spec =
     tie.close
-    (tie.spec
-    is_state_requires
-    same_length
-    returns
-    table_in_requires
-    bias_in_requires
-    window_in_requires
-    last_in_requires
-    slice_aggregate_feed_read
-    slice_aggregate_feed_read_2
-    feed_read_requires
-    same_length_2
-    same_length_3
-    returns_2)
+    (tie.spec is_state_requires same_length returns table_in_requires bias_in_requires window_in_requires last_in_requires slice_aggregate_feed_read slice_aggregate_feed_read_2 feed_read_requires same_length_2 same_length_3 returns_2)

@@ -20,64 +20,64 @@ use Rattle.live.proofs.fresh.Statement.{statement}
 use Rattle.live.proofs.fresh.Tie as tie
 
 -- ---- neither was refused
-abbrev start_of : tie.Else1 → tie.Start
+abbrev start_of : tie.Else-number-ne0 → tie.Start
 start_of x = x.before.before.before.before.before.before
 
-table_passed : (x : tie.Else1) → opening (start_of x).args.table.now ≡ passes
+table_passed : (x : tie.Else-number-ne0) → opening (start_of x).args.table.now ≡ passes
 table_passed x =
     let number = x.before in
     let opened = number.before in
-    passed_at_zero opened.«open».result.answer opened.«open».ensures.0 number.refusal-number.ensures x.if1.false
+    passed_at_zero opened.«open».result.answer opened.«open».ensures.0 number.refusal_number-number.ensures x.if-number-ne0.false
 
-bias_passed : (x : tie.Else2) → bias_opening (start_of x.before.before.before).args.bias.now ≡ passes
+bias_passed : (x : tie.Else-after-ne0) → bias_opening (start_of x.before.before.before).args.bias.now ≡ passes
 bias_passed x =
     let number = x.before in
     let opened = number.before in
-    passed_at_zero opened.open2.result.answer opened.open2.ensures.0 number.refusal-number2.ensures x.if2.false
+    passed_at_zero opened.open-second.result.answer opened.open-second.ensures.0 number.refusal_number-after.ensures x.if-after-ne0.false
 
-open_requires : tie.Need-open-requires
+open_requires : tie.Need-open-answer-requires
 open_requires c κs = search rules
 
-refusal_number_requires : tie.Need-refusal-number-requires
+refusal_number_requires : tie.Need-refusal_number-number-requires
 refusal_number_requires c κs = search rules
 
-returns : tie.Need-returns
+returns : tie.Need-returns-then-number-ne0
 returns c =
     let number = c.before in
     let opened = number.before in
     let a = opened.before.before.before.before.args in
-    let is = both_by_table a.table.now a.bias.now (number_is opened.«open».result.answer opened.«open».ensures.0 number.refusal-number.ensures) c.if1.true in
-    let leaves = refused_by_opening a.table.now a.bias.now a.state.now is c.if1.true in
+    let is = both_by_table a.table.now a.bias.now (number_is opened.«open».result.answer opened.«open».ensures.0 number.refusal_number-number.ensures) c.if-number-ne0.true in
+    let leaves = refused_by_opening a.table.now a.bias.now a.state-1.now is c.if-number-ne0.true in
     (leaves.answer_is, leaves.state_is)
 
-open_requires_2 : tie.Need-open-requires-2
+open_requires_2 : tie.Need-open-second-requires
 open_requires_2 c κs = search rules
 
-refusal_number_requires_2 : tie.Need-refusal-number-requires-2
+refusal_number_requires_2 : tie.Need-refusal_number-after-requires
 refusal_number_requires_2 c κs = search rules
 
-returns_2 : tie.Need-returns-2
+returns_2 : tie.Need-returns-then-after-ne0
 returns_2 c =
     let number = c.before in
     let opened = number.before in
     let first = opened.before in
     let a = (start_of first).args in
-    let is = both_by_bias a.table.now a.bias.now (table_passed first) (number_is opened.open2.result.answer opened.open2.ensures.0 number.refusal-number2.ensures) in
-    let leaves = refused_by_opening a.table.now a.bias.now a.state.now is c.if2.true in
+    let is = both_by_bias a.table.now a.bias.now (table_passed first) (number_is opened.open-second.result.answer opened.open-second.ensures.0 number.refusal_number-after.ensures) in
+    let leaves = refused_by_opening a.table.now a.bias.now a.state-1.now is c.if-after-ne0.true in
     (leaves.answer_is, leaves.state_is)
 
-returns_3 : tie.Need-returns-3
+returns_3 : tie.Need-returns-then-state-lt-STATE_SIZE
 returns_3 c =
     let second = c.before in
     let first = second.before.before.before in
     let a = (start_of first).args in
-    let leaves = no_room a.table.now a.bias.now a.state.now (both_pass _ _ (table_passed first) (bias_passed second)) c.if3.true in
+    let leaves = no_room a.table.now a.bias.now a.state-1.now (both_pass _ _ (table_passed first) (bias_passed second)) c.if-state-lt-STATE_SIZE.true in
     (leaves.answer_is, leaves.state_is)
 
 empty_requires : tie.Need-empty-requires
 empty_requires c κs = search rules
 
-nothing_kept_requires : tie.Need-nothing-kept-requires
+nothing_kept_requires : tie.Need-nothing_kept-requires
 nothing_kept_requires c κs = search rules
 
 save_requires : tie.Need-save-requires
@@ -85,17 +85,17 @@ save_requires c κs =
     let room = c.before.before.before in
     let second = room.before in
     let first = second.before.before.before in (
-      room.if3.false,
+      room.if-state-lt-STATE_SIZE.false,
       record { accepted = table_passed first },
-      record { accepted = bias_passed second; bytes = λ k. (first.before.before.before.before.shared-slice-known2.given k).fits },
+      record { accepted = bias_passed second; bytes = λ k. (first.before.before.before.before.shared_slice_known-2-1.given k).fits },
       subst WindowRange (sym c.before.empty.ensures) empty_window_range,
-      subst LastRange (sym c.nothing-kept.ensures) nothing_in_range,
+      subst LastRange (sym c.nothing_kept.ensures) nothing_in_range,
     )
 
-same_length : tie.Need-same-length
+same_length : tie.Need-shape_of-state
 same_length c = search rules
 
-returns_4 : tie.Need-returns-4
+returns_4 : tie.Need-returns
 unfolding fresh_of
 returns_4 c =
     let kept = c.before.before.before in
@@ -105,23 +105,11 @@ returns_4 c =
     let first = second.before.before.before in
     let a = (start_of first).args in
     let leaves =
-    fresh_saved a.table.now a.bias.now a.state.now (both_pass _ _ (table_passed first) (bias_passed second)) room.if3.false
-    (c.before.before.save.ensures ∙ ap₂ (λ (w : Window) (l : LastScan). saved a.state.now (calibrator_with a.table.now a.bias.now w l)) made.empty.ensures kept.nothing-kept.ensures) in
+    fresh_saved a.table.now a.bias.now a.state-1.now (both_pass _ _ (table_passed first) (bias_passed second)) room.if-state-lt-STATE_SIZE.false
+    (c.before.before.save.ensures ∙ ap₂ (λ (w : Window) (l : LastScan). saved a.state-1.now (calibrator_with a.table.now a.bias.now w l)) made.empty.ensures kept.nothing_kept.ensures) in
     (leaves.answer_is, leaves.state_is)
 
 pub fresh_spec : {M : Type 1} → statement M
 fresh_spec =
     tie.close
-    (tie.spec
-    open_requires
-    refusal_number_requires
-    returns
-    open_requires_2
-    refusal_number_requires_2
-    returns_2
-    returns_3
-    empty_requires
-    nothing_kept_requires
-    save_requires
-    same_length
-    returns_4)
+    (tie.spec open_requires refusal_number_requires returns open_requires_2 refusal_number_requires_2 returns_2 returns_3 empty_requires nothing_kept_requires save_requires same_length returns_4)

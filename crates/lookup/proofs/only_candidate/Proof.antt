@@ -24,11 +24,11 @@ use Rattle.lookup.proofs.only_candidate.Tie as tie
 abbrev AmongFrom : Constants → (wanted first width : ℕ) → Type 0
 AmongFrom k wanted first width = (count : ℕ) → count ≤ 65535 → delivered_with wanted (before_bias k count) ≡ true → (first ≤ count) × (count < first + width)
 
-abbrev invariant_loop : tie.invariant_loop
+abbrev invariant_loop : tie.invariant-loop
 invariant_loop k scale wanted first₀ half₀ counter₀ first half counter =
     (counter ≤ 16) × (half ≡ power (16 - counter) / 2) × (first + power (16 - counter) ≤ 65536) × AmongFrom k wanted first (power (16 - counter))
 
-abbrev decreases_loop : tie.decreases_loop
+abbrev decreases_loop : tie.decreases-loop
 decreases_loop k scale wanted first₀ half₀ counter₀ first half counter = 16 - counter
 
 power_more : (n : ℕ) → power (suc n) ≡ 2 * power n
@@ -74,29 +74,29 @@ module _ (c : Turn) where
   some : 1 ≤ rest
   some = power_some (16 - (c.before.loop.counter + 1))
 
-add_placed_units : tie.Need-overflow-add-placed-units invariant_loop decreases_loop
+add_placed_units : tie.Need-overflow_add-first invariant_loop decreases_loop
 add_placed_units c = omega (arith, half_is c, room c, some c)
 
-placed_units_requires : tie.Need-placed-units-requires invariant_loop decreases_loop
+placed_units_requires : tie.Need-placed_units-requires invariant_loop decreases_loop
 placed_units_requires c κs = c.before.before.requires
 
-cast_if1 : tie.Need-overflow-cast-if1 invariant_loop decreases_loop
+cast_if1 : tie.Need-overflow_cast-wanted invariant_loop decreases_loop
 cast_if1 c = search rules
 
-add_first : tie.Need-overflow-add-first invariant_loop decreases_loop
+add_first : tie.Need-overflow_add-first-then-placed_units-wanted invariant_loop decreases_loop
 add_first c = omega (arith, half_is c.before.before, room c.before.before, some c.before.before)
 
-add_counter : tie.Need-overflow-add-counter invariant_loop decreases_loop
+add_counter : tie.Need-overflow_step invariant_loop decreases_loop
 add_counter c = omega arith
 
 loop_less : tie.Need-loop-smaller invariant_loop decreases_loop
 loop_less c = omega arith
 
-reads_placed : (c : tie.After-placed-units invariant_loop decreases_loop)
-    → to_z w64 (of_z w64 c.placed-units.result) ≡ placed c.before.before.before.args.k (c.before.before.loop.first + c.before.before.loop.half)
-reads_placed c = result_reads_back c.placed-units.result c.placed-units.type-inv ∙ c.placed-units.ensures
+reads_placed : (c : tie.After-placed_units invariant_loop decreases_loop)
+    → to_z w64 (of_z w64 c.placed_units.result) ≡ placed c.before.before.before.args.k (c.before.before.loop.first + c.before.before.loop.half)
+reads_placed c = result_reads_back c.placed_units.result c.placed_units.type_inv ∙ c.placed_units.ensures
 
-reads_wanted : (c : tie.After-placed-units invariant_loop decreases_loop) → to_z w64 c.before.before.before.args.wanted ≡ pos c.before.before.before.args.wanted
+reads_wanted : (c : tie.After-placed_units invariant_loop decreases_loop) → to_z w64 c.before.before.before.args.wanted ≡ pos c.before.before.before.args.wanted
 reads_wanted c = natural_reads_back c.before.before.before.args.wanted (omega arith)
 
 loop_again : tie.Need-loop-preserved invariant_loop decreases_loop
@@ -127,7 +127,7 @@ loop_again c =
           let below : count < l.first + l.half = fits_below h a.wanted (l.first + l.half) count fits (le_z_false (rw (reads_placed asked, reads_wanted asked) at w.0.left)) in
           omega (arith, among count small fits, now-half, w.1),
     ))
-    c.if1.branch
+    c.if-placed_units-wanted.branch
 
 returns : tie.Need-returns invariant_loop decreases_loop
 returns c count small fits =
@@ -139,15 +139,4 @@ returns c count small fits =
 pub only_candidate_spec : {M : Type 1} → statement M
 only_candidate_spec =
     tie.close
-    (tie.spec
-    invariant_loop
-    decreases_loop
-    loop_holds
-    add_placed_units
-    placed_units_requires
-    cast_if1
-    add_first
-    add_counter
-    loop_less
-    loop_again
-    returns)
+    (tie.spec invariant_loop decreases_loop loop_holds add_placed_units placed_units_requires cast_if1 add_first add_counter loop_less loop_again returns)

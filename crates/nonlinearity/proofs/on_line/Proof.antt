@@ -82,18 +82,18 @@ module _ (low high : ShelfPair) {shelf : ℤ} (h : ShelfPairRange low × ShelfPa
   width_is : to_z w64 (of_z w64 high.shelf) -ℤ to_z w64 (of_z w64 low.shelf) ≡ high.shelf -ℤ low.shelf
   width_is = rw (reads_back (high_shelf_fits low high h), reads_back (low_shelf_fits low high h))
 
-sub_weighted : tie.Need-overflow-sub-weighted
+sub_weighted : tie.Need-overflow_sub-weighted
 sub_weighted c = let x = c.before.before in rw (to_high_is x.args.low x.args.high x.requires) (to_high_fits x.args.low x.args.high x.requires)
 
-mul_weighted : tie.Need-overflow-mul-weighted
+mul_weighted : tie.Need-overflow_mul-weighted
 mul_weighted c = let x = c.before.before.before.before in rw (first_is x.args.low x.args.high x.requires) (first_fits x.args.low x.args.high x.requires)
 
-sub_weighted_2 : tie.Need-overflow-sub-weighted-2
+sub_weighted_2 : tie.Need-overflow_sub-weighted-2
 sub_weighted_2 c =
     let x = c.before.before.before.before.before.before in
     rw (from_low_is x.args.low x.args.high x.requires) (from_low_fits x.args.low x.args.high x.requires)
 
-module _ (c : tie.After-struct-told4) where
+module _ (c : tie.After-struct_told-4-1) where
   abbrev start : tie.Start
   start = c.before.before.before.before.before.before.before.before
 
@@ -103,15 +103,15 @@ module _ (c : tie.After-struct-told4) where
   abbrev high : ShelfPair
   high = start.args.high
 
-mul_weighted_2 : tie.Need-overflow-mul-weighted-2
+mul_weighted_2 : tie.Need-overflow_mul-weighted-2
 mul_weighted_2 c = rw (second_is (low c) (high c) (start c).requires) (second_fits (low c) (high c) (start c).requires)
 
-add_weighted : tie.Need-overflow-add-weighted
+add_weighted : tie.Need-overflow_add-weighted
 add_weighted c =
     let p = (start c).requires in
     rw (first_is (low c) (high c) p, reads_back (first_fits (low c) (high c) p), second_is (low c) (high c) p, reads_back (second_fits (low c) (high c) p)) (weighted_fits (low c) (high c) p)
 
-sub_round : tie.Need-overflow-sub-round
+sub_round : tie.Need-overflow_sub-high
 sub_round c =
     let s = c.before.before.before.before in
     rw (width_is (low s) (high s) (start s).requires) (width_fits (low s) (high s) (start s).requires)
@@ -126,18 +126,10 @@ returns : tie.Need-returns
 returns c =
     let s = c.before.before.before.before.before in
     let p = (start s).requires in
-    rw (result_reads_back c.round.result c.round.type-inv)
+    rw (result_reads_back c.round.result c.round.type_inv)
     (rw (first_is (low s) (high s) p, reads_back (first_fits (low s) (high s) p), second_is (low s) (high s) p, reads_back (second_fits (low s) (high s) p), reads_back (weighted_fits (low s) (high s) p), width_is (low s) (high s) p, reads_back (width_fits (low s) (high s) p)) at c.round.ensures)
 
 pub on_line_spec : {M : Type 1} → statement M
 on_line_spec =
     tie.close
-    (tie.spec
-    sub_weighted
-    mul_weighted
-    sub_weighted_2
-    mul_weighted_2
-    add_weighted
-    sub_round
-    round_requires
-    returns)
+    (tie.spec sub_weighted mul_weighted sub_weighted_2 mul_weighted_2 add_weighted sub_round round_requires returns)

@@ -2,11 +2,11 @@
 use Rattle.product.proofs.greater_of.Statement.{statement}
 use Rattle.product.proofs.greater_of.Tie as tie
 
-returns : tie.Need-returns
-returns c = simp c.if1.true
+returns : tie.Need-returns-then-y-x
+returns c = simp c.if-y-x.true
 
-returns_2 : tie.Need-returns-2
-returns_2 c = simp c.if1.false
+returns_2 : tie.Need-returns-else-y-x
+returns_2 c = simp c.if-y-x.false
 
 pub greater_of_spec : {M : Type 1} → statement M
 greater_of_spec = tie.close (tie.spec returns returns_2)

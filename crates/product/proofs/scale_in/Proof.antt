@@ -5,16 +5,16 @@ use Rattle.product.specs.Steps.{scale_in}
 use Rattle.product.proofs.scale_in.Statement.{statement}
 use Rattle.product.proofs.scale_in.Tie as tie
 
-returns : tie.Need-returns
+returns : tie.Need-returns-then-channel-ne0
 unfolding scale_in
-returns c = simp (ne_eqb _ _ c.if1.true)
+returns c = simp (ne_eqb _ _ c.if-channel-ne0.true)
 
-scale_of_requires : tie.Need-scale-of-requires
-scale_of_requires c κs = c.before.before.before.requires.constants c.before.if1.false
+scale_of_requires : tie.Need-scale_of-requires
+scale_of_requires c κs = c.before.before.before.requires.constants c.before.if-channel-ne0.false
 
-returns_2 : tie.Need-returns-2
+returns_2 : tie.Need-returns
 unfolding scale_in
-returns_2 c = c.scale_of.ensures ∙ simp (eq-eqb _ _ c.before.before.if1.false)
+returns_2 c = c.scale_of.ensures ∙ simp (eq-eqb _ _ c.before.before.if-channel-ne0.false)
 
 pub scale_in_spec : {M : Type 1} → statement M
 scale_in_spec = tie.close (tie.spec returns scale_of_requires returns_2)

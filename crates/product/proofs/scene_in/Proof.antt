@@ -6,19 +6,19 @@ use Rattle.product.specs.Steps.{scale_in}
 use Rattle.product.proofs.scene_in.Statement.{statement}
 use Rattle.product.proofs.scene_in.Tie as tie
 
-returns : tie.Need-returns
+returns : tie.Need-returns-then-channel-ne0
 unfolding scene_in
-returns c = simp (ne_eqb _ _ c.if1.true)
+returns c = simp (ne_eqb _ _ c.if-channel-ne0.true)
 
-scene_of_requires : tie.Need-scene-of-requires
+scene_of_requires : tie.Need-scene_of-requires
 unfolding scale_in
 scene_of_requires c κs =
     let s = c.before.before.before in
-    (s.requires.0.constants c.before.if1.false, s.requires.1 ∙ simp (eq-eqb _ _ c.before.if1.false), s.requires.2)
+    (s.requires.0.constants c.before.if-channel-ne0.false, s.requires.1 ∙ simp (eq-eqb _ _ c.before.if-channel-ne0.false), s.requires.2)
 
-returns_2 : tie.Need-returns-2
+returns_2 : tie.Need-returns
 unfolding scene_in
-returns_2 c = c.scene-of.ensures ∙ simp (eq-eqb _ _ c.before.before.if1.false)
+returns_2 c = c.scene_of.ensures ∙ simp (eq-eqb _ _ c.before.before.if-channel-ne0.false)
 
 pub scene_in_spec : {M : Type 1} → statement M
 scene_in_spec = tie.close (tie.spec returns scene_of_requires returns_2)

@@ -20,51 +20,51 @@ use Rattle.product.proofs.write_summaries.Tie as tie
 abbrev bytes_at : List Summary → ℕ → List ℕ
 bytes_at all c = summary_bytes (get_or all c none_delivered)
 
-abbrev invariant_loop : tie.invariant_loop
+abbrev invariant_loop : tie.invariant-loop-c
 invariant_loop out₀ all c₀ out c = (c ≤ channels) × (length out ≡ summary_size * channels) × (out ≡ filled (bytes_at all) summary_size c out₀)
 
-abbrev decreases_loop : tie.decreases_loop
+abbrev decreases_loop : tie.decreases-loop-c
 decreases_loop out₀ all c₀ out c = channels - c
 
-loop_holds : tie.Need-loop-init invariant_loop decreases_loop
-loop_holds c = (search rules, search rules, filled_none (bytes_at c.before.args.t2) summary_size c.before.args.out.now)
+loop_holds : tie.Need-loop-c-init invariant_loop decreases_loop
+loop_holds c = (search rules, search rules, filled_none (bytes_at c.before.args.t2) summary_size c.before.args.out-1.now)
 
-mul_s : tie.Need-overflow-mul-s invariant_loop decreases_loop
+mul_s : tie.Need-offset_bounds-all-c invariant_loop decreases_loop
 mul_s c = omega arith
 
-array_copy_out_s : tie.Need-array-copy-out-s invariant_loop decreases_loop
+array_copy_out_s : tie.Need-bounds-all-c invariant_loop decreases_loop
 array_copy_out_s c = search rules
 
-mul_put_summary : tie.Need-overflow-mul-put-summary invariant_loop decreases_loop
+mul_put_summary : tie.Need-overflow_mul-c invariant_loop decreases_loop
 mul_put_summary c = omega arith
 
-put_summary_requires : tie.Need-put-summary-requires invariant_loop decreases_loop
+put_summary_requires : tie.Need-put_summary-requires invariant_loop decreases_loop
 put_summary_requires c κs =
     let l = c.before.before.before in
     let s = l.before.before in (
       omega arith,
-      subst Plain (sym (summary_of s.args.t2 l.loop.c (search rules))) (s.requires.1 l.loop.c c.before.before.loop-test.true),
+      subst Plain (sym (summary_of s.args.t2 l.loop-c.c (search rules))) (s.requires.1 l.loop-c.c c.before.before.loop-c-test.true),
     )
 
-add_c : tie.Need-overflow-add-c invariant_loop decreases_loop
+add_c : tie.Need-overflow_step-c invariant_loop decreases_loop
 add_c c = omega arith
 
-loop_less : tie.Need-loop-smaller invariant_loop decreases_loop
+loop_less : tie.Need-loop-c-smaller invariant_loop decreases_loop
 loop_less c = omega arith
 
-loop_again : tie.Need-loop-preserved invariant_loop decreases_loop
+loop_again : tie.Need-loop-c-preserved invariant_loop decreases_loop
 loop_again c =
-    let w = c.before.before.put-summary in
+    let w = c.before.before.put_summary in
     let l = c.before.before.before.before.before.before in
     let a = l.before.before.args in
-    let k = l.loop.c in (
+    let k = l.loop-c.c in (
       omega arith,
-      w.auto.0 ∙ l.loop.invariant.1,
-      filled_by_put (bytes_at a.t2) summary_size (λ i. length_summary_bytes _) a.out.now k
-          l.loop.invariant.2 (ap summary_bytes (summary_of a.t2 k (search rules))) w.ensures,
+      w.auto.0 ∙ l.loop-c.invariant.1,
+      filled_by_put (bytes_at a.t2) summary_size (λ i. length_summary_bytes _) a.out-1.now k
+          l.loop-c.invariant.2 (ap summary_bytes (summary_of a.t2 k (search rules))) w.ensures,
     )
 
-same_length : tie.Need-same-length invariant_loop decreases_loop
+same_length : tie.Need-shape_of-out invariant_loop decreases_loop
 same_length c = search rules
 
 returns : tie.Need-returns invariant_loop decreases_loop
@@ -72,21 +72,9 @@ unfolding summaries_bytes
 returns c =
     let l = c.before in
     let a = l.before.before.args in
-    filled_to_end (bytes_at a.t2) summary_size channels a.out.now (omega arith) l.before.before.requires.0 l.loop.invariant.2
+    filled_to_end (bytes_at a.t2) summary_size channels a.out-1.now (omega arith) l.before.before.requires.0 l.loop-c.invariant.2
 
 pub write_summaries_spec : {M : Type 1} → statement M
 write_summaries_spec =
     tie.close
-    (tie.spec
-    invariant_loop
-    decreases_loop
-    loop_holds
-    mul_s
-    array_copy_out_s
-    mul_put_summary
-    put_summary_requires
-    add_c
-    loop_less
-    loop_again
-    same_length
-    returns)
+    (tie.spec invariant_loop decreases_loop loop_holds mul_s array_copy_out_s mul_put_summary put_summary_requires add_c loop_less loop_again same_length returns)

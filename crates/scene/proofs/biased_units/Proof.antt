@@ -43,7 +43,7 @@ module _ (s : tie.Start) where
   quotient = (product + s.args.offset + product / 65536 % 2) / 65536
 
   t_not_negative : pos 0 ≤ℤ s.args.t
-  t_not_negative = at_most_trans (natural_at_most (omega arith)) s.pre.0
+  t_not_negative = at_most_trans (natural_at_most (omega arith)) s.requires.0
 
   t_is : pos t ≡ s.args.t
   t_is = pos-nat_abs s.args.t (yes_non_neg t_not_negative)
@@ -54,7 +54,7 @@ module _ (s : tie.Start) where
       ∙ ap (λ z. pos s.args.factor *ℤ z) (sym t_is)
 
   product_small : product ≤ 180189659136
-  product_small = at_most_natural (rw product_is at (product_bounded s.pre.2.c0 s.pre.2.e s.pre.0 s.pre.1).high)
+  product_small = at_most_natural (rw product_is at (product_bounded s.requires.2.c0 s.requires.2.e s.requires.0 s.requires.1).high)
 
   quotient_small : quotient ≤ 2815011
   quotient_small = omega (arith, product_small)
@@ -64,7 +64,7 @@ module _ (s : tie.Start) where
   delivered_is =
       let high = pos (s.args.offset / 65536) in
       let rounded = r (pos product) (pos 65536) in
-      ap (λ (n : ℕ). pos n -ℤ pos 32768) (quotient_parts product s.args.offset s.pre.2.below_half)
+      ap (λ (n : ℕ). pos n -ℤ pos 32768) (quotient_parts product s.args.offset s.requires.2.below_half)
       ∙ ap (λ z. high +ℤ z -ℤ pos 32768) (quotient_is_rounding product)
       ∙ ring (high ∷ rounded ∷ []) (v0 :+ v1 :- # 32768) (v0 :- # 32768 :+ v1) tt
       ∙ ap (λ z. c0_of s.args.offset +ℤ r z (pos 65536)) (sym product_is)
@@ -72,29 +72,29 @@ module _ (s : tie.Start) where
   delivered_fits : SFits w32 (pos quotient -ℤ pos 32768)
   unfolding biased
   delivered_fits =
-      let rounded = rounded_high s.pre.2.c0 s.pre.2.e s.pre.0 s.pre.1 in
-      let not_negative = at_most_trans (natural_at_most {m = 0} {n = 5583} (omega arith)) (rounded_low s.pre.2.c0 s.pre.2.e s.pre.0 s.pre.1) in
-      rw delivered_is (bounded_fits (bounded_sum s.pre.2.c0 (bounded_not_negative not_negative rounded)) (lit< tt))
+      let rounded = rounded_high s.requires.2.c0 s.requires.2.e s.requires.0 s.requires.1 in
+      let not_negative = at_most_trans (natural_at_most {m = 0} {n = 5583} (omega arith)) (rounded_low s.requires.2.c0 s.requires.2.e s.requires.0 s.requires.1) in
+      rw delivered_is (bounded_fits (bounded_sum s.requires.2.c0 (bounded_not_negative not_negative rounded)) (lit< tt))
 
   quotient_reads_back : to_z w32 quotient ≡ pos quotient
   quotient_reads_back = to_z_pos w32 quotient (omega (arith, quotient_small))
 
-cast_product : tie.Need-overflow-cast-product
+cast_product : tie.Need-overflow_cast-product-2
 cast_product c = rw (reads_back c.ranges.t) (unsigned_fits (t_not_negative c) c.ranges.t)
 
-mul_product : tie.Need-overflow-mul-product
+mul_product : tie.Need-overflow_mul-product
 mul_product c = rw (reads_back c.ranges.t) (record { fits = omega (arith, product_small c) })
 
-add_result : tie.Need-overflow-add-result
+add_result : tie.Need-overflow_add-result
 add_result c = rw (reads_back c.ranges.t) (record { fits = omega (arith, product_small c) })
 
-add_result_2 : tie.Need-overflow-add-result-2
+add_result_2 : tie.Need-overflow_add-result-2
 add_result_2 c = rw (reads_back c.ranges.t) (record { fits = omega (arith, product_small c) })
 
-cast_result : tie.Need-overflow-cast-result
+cast_result : tie.Need-overflow_cast-result-2
 cast_result c = rw (reads_back c.ranges.t) (record { sfits = omega (arith, quotient_small c) })
 
-sub_result : tie.Need-overflow-sub-result
+sub_result : tie.Need-overflow_sub-result
 sub_result c = rw (reads_back c.ranges.t, quotient_reads_back c) (delivered_fits c)
 
 returns : tie.Need-returns
@@ -103,11 +103,4 @@ returns c = rw (reads_back c.ranges.t, quotient_reads_back c, reads_back (delive
 pub biased_units_spec : {M : Type 1} → statement M
 biased_units_spec =
     tie.close
-    (tie.spec
-    cast_product
-    mul_product
-    add_result
-    add_result_2
-    cast_result
-    sub_result
-    returns)
+    (tie.spec cast_product mul_product add_result add_result_2 cast_result sub_result returns)

@@ -8,10 +8,10 @@ use Rattle.scene.specs.Scene.{bits}
 use Rattle.scene.proofs.bits_of.Statement.{statement}
 use Rattle.scene.proofs.bits_of.Tie as tie
 
-value_of_requires : tie.Need-value-of-requires
+value_of_requires : tie.Need-value_of-requires
 value_of_requires c κs = search rules
 
-float_to_bits_result : tie.Need-float-to-bits-result
+float_to_bits_result : tie.Need-float_to_bits-result
 float_to_bits_result c = subst (λ x. T (not (is_nan x))) (sym c.value_of_lem.ensures) c.before.requires
 
 returns : tie.Need-returns

@@ -40,43 +40,43 @@ module _ {k : Constants} {n : ℤ} (h : ConstantsRange k) (low : pos 0 ≤ℤ n)
 d_small : {k : Constants} → ConstantsRange k → k.d ≤ℤ pos 2305843009213693952
 d_small {k} h = (le_by (k.d ∷ []) ((v0 :≤ # 51136960500) ∷ []) v0 (# 2305843009213693952) (hyp 0 ⊕ hyp 1) tt h.d_high)
 
-mul_round_small : tie.Need-overflow-mul-round-small
+mul_round_small : tie.Need-overflow_mul-n
 mul_round_small c = let h = c.requires in rw (reads_back c.ranges.n) (scaled_fits h.0 h.2 h.3)
 
-round_small_requires : tie.Need-round-small-requires
+round_small_requires : tie.Need-round_small-x-requires
 round_small_requires c κs =
     let s = c.before.before in
     let h = s.requires in
     rw (reads_back s.ranges.n, reads_back (scaled_fits h.0 h.2 h.3), reads_back (d_fits h.0), twice_reads_back h.0 h.1) (scaled_small h.0 h.2 h.3, h.0.d_low, d_small h.0, refl)
 
-x_reads_back : (c : tie.After-round-small) → let a = c.before.before.before.args in to_z w64 (of_z w64 c.round-small.result) ≡ X a.n a.k.d
+x_reads_back : (c : tie.After-round_small-x) → let a = c.before.before.before.args in to_z w64 (of_z w64 c.round_small-x.result) ≡ X a.n a.k.d
 x_reads_back c =
     let s = c.before.before.before in
     let h = s.requires in
-    result_reads_back c.round-small.result c.round-small.type-inv
-    ∙ rw (reads_back s.ranges.n, reads_back (scaled_fits h.0 h.2 h.3), reads_back (d_fits h.0)) at c.round-small.ensures
+    result_reads_back c.round_small-x.result c.round_small-x.type_inv
+    ∙ rw (reads_back s.ranges.n, reads_back (scaled_fits h.0 h.2 h.3), reads_back (d_fits h.0)) at c.round_small-x.ensures
 
-mul_round_small_2 : tie.Need-overflow-mul-round-small-2
+mul_round_small_2 : tie.Need-overflow_mul-n-2
 mul_round_small_2 c =
     let s = c.before.before.before.before.before in
     let h = s.requires in
     rw (reads_back s.ranges.n, reads_back (rise_fits h.0)) (n_rise_fits h.0 h.2 h.3)
 
-round_small_requires_2 : tie.Need-round-small-requires-2
+round_small_requires_2 : tie.Need-round_small-linear-requires
 round_small_requires_2 c κs =
     let s = c.before.before.before.before.before.before.before in
     let h = s.requires in
     rw (reads_back s.ranges.n, reads_back (rise_fits h.0), reads_back (n_rise_fits h.0 h.2 h.3), reads_back (d_fits h.0), twice_reads_back h.0 h.1) (n_rise_small h.0 h.2 h.3, h.0.d_low, d_small h.0, refl)
 
-linear_reads_back : (c : tie.After-round-small2)
-    → let a = c.before.before.before.before.before.before.before.before.args in to_z w64 (of_z w64 c.round-small2.result) ≡ r (a.n *ℤ a.k.rise) a.k.d
+linear_reads_back : (c : tie.After-round_small-linear)
+    → let a = c.before.before.before.before.before.before.before.before.args in to_z w64 (of_z w64 c.round_small-linear.result) ≡ r (a.n *ℤ a.k.rise) a.k.d
 linear_reads_back c =
     let s = c.before.before.before.before.before.before.before.before in
     let h = s.requires in
-    result_reads_back c.round-small2.result c.round-small2.type-inv
-    ∙ rw (reads_back s.ranges.n, reads_back (rise_fits h.0), reads_back (n_rise_fits h.0 h.2 h.3), reads_back (d_fits h.0)) at c.round-small2.ensures
+    result_reads_back c.round_small-linear.result c.round_small-linear.type_inv
+    ∙ rw (reads_back s.ranges.n, reads_back (rise_fits h.0), reads_back (n_rise_fits h.0 h.2 h.3), reads_back (d_fits h.0)) at c.round_small-linear.ensures
 
-units_of_requires : tie.Need-units-of-requires
+units_of_requires : tie.Need-units_of-requires
 units_of_requires c κs =
     let l = c.before.before in
     let h = l.before.before.before.before.before.before.before.before.requires in
@@ -89,17 +89,11 @@ returns c =
     let l = c.before.before.before in
     let s = l.before.before.before.before.before.before.before.before in
     let h = s.requires in
-    reads_back (record { sfits = c.units_of.type-inv })
+    reads_back (record { sfits = c.units_of.type_inv })
     ∙ (rw (start_reads_back h.0 h.1, curve_reads_back h.0 h.1, x_reads_back l.before.before.before.before.before, linear_reads_back l) at c.units_of.ensures)
     ∙ units_from_start s.args.k.tc (r (s.args.n *ℤ s.args.k.rise) s.args.k.d) (X s.args.n s.args.k.d) s.args.k.tnl
 
 pub divided_units_spec : {M : Type 1} → statement M
 divided_units_spec =
     tie.close
-    (tie.spec
-    mul_round_small
-    round_small_requires
-    mul_round_small_2
-    round_small_requires_2
-    units_of_requires
-    returns)
+    (tie.spec mul_round_small round_small_requires mul_round_small_2 round_small_requires_2 units_of_requires returns)

@@ -19,7 +19,7 @@ module _ {t : ℤ} (w : WithinGuard t) where
       subst (λ z. mul binary32 (of_int binary32 z) (div binary32 (of_bits binary32 1065353216) (of_bits binary32 1166016512)) ≡ kelvin (nat_abs t)) w.same
       (product_is_kelvin (nat_abs t) w.low w.high)
 
-int_to_float_result : tie.Need-int-to-float-result
+int_to_float_result : tie.Need-int_to_float-result
 int_to_float_result c = let s = c.before in rw (reads_back s.ranges.t) (cast_in_float (within_guard s.requires.0 s.requires.1))
 
 returns : tie.Need-returns

@@ -11,10 +11,10 @@ use Rattle.scene.proofs.Bracket.{bracket_found, low_end_fits}
 use Rattle.scene.proofs.low_end.Statement.{statement}
 use Rattle.scene.proofs.low_end.Tie as tie
 
-cast_result : tie.Need-overflow-cast-result
+cast_result : tie.Need-overflow_cast-result
 cast_result c = rw (reads_back c.ranges.n) (unsigned_fits c.requires.2 c.ranges.n)
 
-mul_result : tie.Need-overflow-mul-result
+mul_result : tie.Need-overflow_mul-result
 mul_result c =
     let h = c.requires in
     let a = c.args in

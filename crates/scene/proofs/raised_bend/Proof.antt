@@ -33,63 +33,55 @@ module _ {x curve : ℤ} (h : Bounded x (pos 81920) × Bounded curve (pos 32768)
   raised_bend_fits : SFits w64 (bend_of x curve +ℤ pos 1048576)
   raised_bend_fits = bounded_fits (raised_bend_bounded h.0 h.1) (lit< tt)
 
-sub_raised : tie.Need-overflow-sub-raised
+sub_raised : tie.Need-overflow_sub-raised
 sub_raised c = rw (reads_back c.ranges.x) (rest_of_x_fits c.requires)
 
-mul_raised : tie.Need-overflow-mul-raised
+mul_raised : tie.Need-overflow_mul-raised
 mul_raised c = let h = c.requires in rw (reads_back c.ranges.x, reads_back (rest_of_x_fits h)) (x_product_fits h)
 
-mul_raised_2 : tie.Need-overflow-mul-raised-2
+mul_raised_2 : tie.Need-overflow_mul-raised-2
 mul_raised_2 c =
     let h = c.requires in
     rw (reads_back c.ranges.x, reads_back c.ranges.curve, reads_back (rest_of_x_fits h), reads_back (x_product_fits h)) (x_curve_fits h)
 
-add_raised : tie.Need-overflow-add-raised
+add_raised : tie.Need-overflow_add-raised
 add_raised c =
     let h = c.requires in
     rw (reads_back c.ranges.x, reads_back c.ranges.curve, reads_back (rest_of_x_fits h), reads_back (x_product_fits h), reads_back (x_curve_fits h)) (raised_fits h)
 
-cast_round_natural : tie.Need-overflow-cast-round-natural
+cast_round_natural : tie.Need-overflow_cast-raised
 cast_round_natural c =
     let h = c.requires in
     rw (reads_back c.ranges.x, reads_back c.ranges.curve, reads_back (rest_of_x_fits h), reads_back (x_product_fits h), reads_back (x_curve_fits h), reads_back (raised_fits h))
     (unsigned_fits (raised_not_negative h.0 h.1) (raised_fits h))
 
-round_natural_requires : tie.Need-round-natural-requires
+round_natural_requires : tie.Need-round_natural-requires
 round_natural_requires c κs =
     let h = c.requires in
     rw (reads_back c.ranges.x, reads_back c.ranges.curve, reads_back (rest_of_x_fits h), reads_back (x_product_fits h), reads_back (x_curve_fits h), reads_back (raised_fits h))
     (le_trans (bounded_size (raised_bounded h.0 h.1)) (lit≤ tt), lit< tt, lit≤ tt)
 
-module _ (c : tie.After-round-natural) where
+module _ (c : tie.After-round_natural) where
   abbrev product : ℤ
   product = c.before.args.x *ℤ (pos 65536 -ℤ c.before.args.x) *ℤ c.before.args.curve
 
-  raised_bend_is : pos c.round-natural.result ≡ r product (pos 4294967296) +ℤ pos 1048576
+  raised_bend_is : pos c.round_natural.result ≡ r product (pos 4294967296) +ℤ pos 1048576
   raised_bend_is =
       let s = c.before in
       let h = s.requires in
-      (rw (reads_back s.ranges.x, reads_back s.ranges.curve, reads_back (rest_of_x_fits h), reads_back (x_product_fits h), reads_back (x_curve_fits h), reads_back (raised_fits h), pos-nat_abs (product +ℤ pos 4503599627370496) (yes_non_neg (raised_not_negative h.0 h.1))) at c.round-natural.ensures)
+      (rw (reads_back s.ranges.x, reads_back s.ranges.curve, reads_back (rest_of_x_fits h), reads_back (x_product_fits h), reads_back (x_curve_fits h), reads_back (raised_fits h), pos-nat_abs (product +ℤ pos 4503599627370496) (yes_non_neg (raised_not_negative h.0 h.1))) at c.round_natural.ensures)
       ∙ r_shifted product (pos 524288) (lt_z_yes tt)
 
-  result_fits : SFits w64 (pos c.round-natural.result)
+  result_fits : SFits w64 (pos c.round_natural.result)
   result_fits = rw raised_bend_is (raised_bend_fits c.before.requires)
 
-cast_result : tie.Need-overflow-cast-result
+cast_result : tie.Need-overflow_cast-result
 cast_result c = result_fits c
 
 returns : tie.Need-returns
-returns c = rw (natural_reads_back c.round-natural.result (result_fits c).sfits) (raised_bend_is c)
+returns c = rw (natural_reads_back c.round_natural.result (result_fits c).sfits) (raised_bend_is c)
 
 pub raised_bend_spec : {M : Type 1} → statement M
 raised_bend_spec =
     tie.close
-    (tie.spec
-    sub_raised
-    mul_raised
-    mul_raised_2
-    add_raised
-    cast_round_natural
-    round_natural_requires
-    cast_result
-    returns)
+    (tie.spec sub_raised mul_raised mul_raised_2 add_raised cast_round_natural round_natural_requires cast_result returns)

@@ -30,31 +30,31 @@ deliver s = biased (c0_of s.args.offset) (e_of s.args.factor)
 count_high : (s : tie.Start) → s.args.count ≤ 65535
 count_high s = omega arith
 
-cast_n : tie.Need-overflow-cast-n
+cast_n : tie.Need-overflow_cast-n
 cast_n c = search rules
 
-mul_n : tie.Need-overflow-mul-n
+mul_n : tie.Need-overflow_mul-n
 mul_n c = let s = c.before.before in rw (slope_count_is s.requires.0 (count_high s)) (slope_count_fits s.requires.0 (count_high s))
 
-sub_n : tie.Need-overflow-sub-n
+sub_n : tie.Need-overflow_sub-n
 sub_n c = let s = c.before.before.before.before in rw (n_is s.requires.0 (count_high s)) (n_fits s.requires.0 (count_high s))
 
-returns : tie.Need-returns
+returns : tie.Need-returns-then-n-lt0
 returns c =
     let s = c.before.before.before.before.before in
-    scene_negative (deliver s) s.args.k s.args.count (rw (n_is s.requires.0 (count_high s), reads_back (n_fits s.requires.0 (count_high s))) at c.if1.true)
+    scene_negative (deliver s) s.args.k s.args.count (rw (n_is s.requires.0 (count_high s), reads_back (n_fits s.requires.0 (count_high s))) at c.if-n-lt0.true)
 
-n_not_negative : (c : tie.Else1) → lt_z (numerator c.before.before.before.before.before.args.k c.before.before.before.before.before.args.count) (pos 0) ≡ false
+n_not_negative : (c : tie.Else-n-lt0) → lt_z (numerator c.before.before.before.before.before.args.k c.before.before.before.before.before.args.count) (pos 0) ≡ false
 n_not_negative c =
     let s = c.before.before.before.before.before in
-    rw (n_is s.requires.0 (count_high s), reads_back (n_fits s.requires.0 (count_high s))) at c.if1.false
+    rw (n_is s.requires.0 (count_high s), reads_back (n_fits s.requires.0 (count_high s))) at c.if-n-lt0.false
 
-returns_2 : tie.Need-returns-2
+returns_2 : tie.Need-returns-then-scale-n
 returns_2 c =
     let s = c.before.before.before.before.before.before.before.before in
-    scene_above (deliver s) s.args.k s.args.count (n_not_negative c.before.before.before) (above_test s.requires.0 (count_high s) s.args.scale s.requires.1 true c.if2.true)
+    scene_above (deliver s) s.args.k s.args.count (n_not_negative c.before.before.before) (above_test s.requires.0 (count_high s) s.args.scale s.requires.1 true c.if-scale-n.true)
 
-module _ (c : tie.Else2) where
+module _ (c : tie.Else-scale-n) where
   abbrev start : tie.Start
   start = c.before.before.before.before.before.before.before.before
 
@@ -62,24 +62,24 @@ module _ (c : tie.Else2) where
   n_low = n_not_negative c.before.before.before
 
   n_high : lt_z (pos 5 *ℤ start.args.k.d) (pos 4 *ℤ numerator start.args.k start.args.count) ≡ false
-  n_high = above_test start.pre.0 (count_high start) start.args.scale start.pre.1 false c.if2.false
+  n_high = above_test start.requires.0 (count_high start) start.args.scale start.requires.1 false c.if-scale-n.false
 
-units_requires : tie.Need-units-requires
+units_requires : tie.Need-units-t-requires
 units_requires c κs =
     let h = (start c).requires.0 in
     let m = count_high (start c) in
     rw (n_is h m, reads_back (n_fits h m)) (h, (start c).requires.1, lt_z_false (n_low c), lt_z_false (n_high c))
 
-t_is : (c : tie.After-units) → c.units.result ≡ temperature_of (start c.before).args.k (start c.before).args.count
+t_is : (c : tie.After-units-t) → c.units-t.result ≡ temperature_of (start c.before).args.k (start c.before).args.count
 t_is c =
-    let h = (start c.before).pre.0 in
+    let h = (start c.before).requires.0 in
     let m = count_high (start c.before) in
-    rw (n_is h m, reads_back (n_fits h m)) at c.units.ensures
+    rw (n_is h m, reads_back (n_fits h m)) at c.units-t.ensures
 
-t_reads_back : (c : tie.After-units) → to_z w64 (of_z w64 c.units.result) ≡ c.units.result
-t_reads_back c = reads_back (record { sfits = c.units.type-inv })
+t_reads_back : (c : tie.After-units-t) → to_z w64 (of_z w64 c.units-t.result) ≡ c.units-t.result
+t_reads_back c = reads_back (record { sfits = c.units-t.type_inv })
 
-module _ (c : tie.After-units) where
+module _ (c : tie.After-units-t) where
   abbrev begin : tie.Start
   begin = start c.before
 
@@ -87,7 +87,7 @@ module _ (c : tie.After-units) where
   t = temperature_of begin.args.k begin.args.count
 
   in-range : SceneRange begin.args.k.tc begin.args.k.rise begin.args.k.tnl begin.args.k.d (numerator begin.args.k begin.args.count)
-  in-range = scene_range begin.pre.0 (lt_z_false (n_low c.before)) (lt_z_false (n_high c.before))
+  in-range = scene_range begin.requires.0 (lt_z_false (n_low c.before)) (lt_z_false (n_high c.before))
 
   -- the guard cannot fail
   t_above_guard : pos 1 ≤ℤ t
@@ -96,15 +96,15 @@ module _ (c : tie.After-units) where
   t_below_guard : t ≤ℤ pos 16777215
   t_below_guard = at_most_trans (temperature_high in-range) (natural_at_most (omega arith))
 
-biased_units_requires : tie.Need-biased-units-requires
+biased_units_requires : tie.Need-biased_units-requires
 biased_units_requires c κs = rw (t_reads_back c, t_is c) (temperature_low (in-range c), temperature_high (in-range c), (begin c).requires.2)
 
-module _ (c : tie.After-biased-units) where
+module _ (c : tie.After-biased_units) where
   abbrev delivered : ℤ
   delivered = deliver (begin c.before) (t c.before)
 
-  delivered_is : to_z w32 (of_z w32 c.biased-units.result) ≡ delivered
-  delivered_is = reads_back (record { sfits = c.biased-units.type-inv }) ∙ rw (t_reads_back c.before, t_is c.before) at c.biased-units.ensures
+  delivered_is : to_z w32 (of_z w32 c.biased_units.result) ≡ delivered
+  delivered_is = reads_back (record { sfits = c.biased_units.type_inv }) ∙ rw (t_reads_back c.before, t_is c.before) at c.biased_units.ensures
 
   delivered_from : pos 1 ≤ℤ delivered
   delivered_from = let u = c.before in biased_low (begin u).requires.2.c0 (begin u).requires.2.e (temperature_low (in-range u)) (temperature_high (in-range u))
@@ -112,27 +112,18 @@ module _ (c : tie.After-biased-units) where
   delivered_to : delivered ≤ℤ pos 16777215
   delivered_to = let u = c.before in biased_high (begin u).requires.2.c0 (begin u).requires.2.e (temperature_low (in-range u)) (temperature_high (in-range u))
 
-kelvin_of_requires : tie.Need-kelvin-of-requires
+kelvin_of_requires : tie.Need-kelvin_of-requires
 kelvin_of_requires c κs = rw (delivered_is c) (delivered_from c, delivered_to c)
 
-returns_3 : tie.Need-returns-3
+returns_3 : tie.Need-returns
 returns_3 c =
     let d = c.before in
     let u = d.before in
     let s = begin u in
-    rw (c.kelvin-of.ensures, delivered_is d)
+    rw (c.kelvin_of.ensures, delivered_is d)
     (scene_kelvin (deliver s) s.args.k s.args.count (n_low u.before) (n_high u.before) (at_most_fails (t_above_guard u)) (at_most_fails (t_below_guard u)))
 
 pub scene_of_spec : {M : Type 1} → statement M
 scene_of_spec =
     tie.close
-    (tie.spec
-    cast_n
-    mul_n
-    sub_n
-    returns
-    returns_2
-    units_requires
-    biased_units_requires
-    kelvin_of_requires
-    returns_3)
+    (tie.spec cast_n mul_n sub_n returns returns_2 units_requires biased_units_requires kelvin_of_requires returns_3)

@@ -46,29 +46,29 @@ module _ {k : Constants} {n : ℤ} {w : ℕ} (h : ConstantsRange k) (high : (pos
         ∙ linear_nearest h.d_low e (nat_abs k.rise) (omega (arith, s.of_linear, bounded_size (rise_bounded h)))
         ∙ ap (λ z. r (n *ℤ z) k.d) (pos-nat_abs k.rise (yes_non_neg (rise_not_negative h)))
 
-low_end_requires : tie.Need-low-end-requires
+low_end_requires : tie.Need-low_end-low-requires
 low_end_requires c κs =
     let h = c.requires in
     rw (reads_back c.ranges.n) (h.0, ap (λ s. s.inverse) h.1, h.2, h.3)
 
-bracketed : (l : tie.After-low-end) → Bracket l.before.args.n l.before.args.k.d l.low-end.result
-bracketed l = rw (reads_back l.before.ranges.n) at l.low-end.ensures
+bracketed : (l : tie.After-low_end-low) → Bracket l.before.args.n l.before.args.k.d l.low_end-low.result
+bracketed l = rw (reads_back l.before.ranges.n) at l.low_end-low.ensures
 
-add_x : tie.Need-overflow-add-x
+add_x : tie.Need-overflow_add-x
 add_x c = let h = c.before.requires in record { fits = omega (arith, low_end_at_most h.0 h.3 (bracketed c)) }
 
-cast_linear : tie.Need-overflow-cast-linear
+cast_linear : tie.Need-overflow_cast-linear
 cast_linear c =
     let h = c.before.before.before.requires in
     rw (reads_back (rise_fits h.0)) (unsigned_fits (rise_not_negative h.0) (rise_fits h.0))
 
-mul_linear : tie.Need-overflow-mul-linear
+mul_linear : tie.Need-overflow_mul-linear
 mul_linear c =
     let l = c.before.before in
     let h = l.before.requires in
     rw (reads_back (rise_fits h.0)) (record { fits = lt_of_le_of_lt (product_at_most h.0 h.3 (bracketed l)) (lit< tt) })
 
-add_linear : tie.Need-overflow-add-linear
+add_linear : tie.Need-overflow_add-linear
 add_linear c =
     let l = c.before.before in
     let h = l.before.requires in
@@ -78,73 +78,61 @@ unsure_requires : tie.Need-unsure-requires
 unsure_requires c κs = search rules
 
 -- ---- unsure
-divided_units_requires : tie.Need-divided-units-requires
+divided_units_requires : tie.Need-divided_units-requires
 divided_units_requires c κs = let s = c.before.before.before.before.before in rw (reads_back s.ranges.n) s.requires
 
-returns : tie.Need-returns
+returns : tie.Need-returns-then-unsure
 returns c =
     let s = c.before.before.before.before.before.before in
-    reads_back (record { sfits = c.divided-units.type-inv }) ∙ rw (reads_back s.ranges.n) at c.divided-units.ensures
+    reads_back (record { sfits = c.divided_units.type_inv }) ∙ rw (reads_back s.ranges.n) at c.divided_units.ensures
 
 -- ---- sure
-module _ (c : tie.Else1) where
-  abbrev low : tie.After-low-end
+module _ (c : tie.Else-unsure) where
+  abbrev low : tie.After-low_end-low
   low = c.before.before.before.before
 
   abbrev start : tie.Start
   start = low.before
 
   abbrev end : ℕ
-  end = low.low-end.result
+  end = low.low_end-low.result
 
   sure : Sure (x_at end) (linear_at start.args.k end) (scale_of start.args.k).edge
   sure =
-      let is : c.before.unsure.result ≡ unsure_of (x_at end) (linear_at start.args.k end) start.args.scale.edge = rw (reads_back (rise_fits start.pre.0)) at c.before.unsure.ensures in
+      let is : c.before.unsure.result ≡ unsure_of (x_at end) (linear_at start.args.k end) start.args.scale.edge = rw (reads_back (rise_fits start.requires.0)) at c.before.unsure.ensures in
       sure_by (x_at end) (linear_at start.args.k end) (scale_of start.args.k).edge
-      (ap (λ s. unsure_of (x_at end) (linear_at start.args.k end) s.edge) (sym start.pre.1) ∙ sym is ∙ c.if1.false)
+      (ap (λ s. unsure_of (x_at end) (linear_at start.args.k end) s.edge) (sym start.requires.1) ∙ sym is ∙ c.if-unsure.false)
 
   found_x : to_z w64 (x_at end / 65536) ≡ X start.args.n start.args.k.d
-  found_x = let h = start.pre in x_reads_back h.0 h.3 (bracketed low) sure
+  found_x = let h = start.requires in x_reads_back h.0 h.3 (bracketed low) sure
 
   found_linear : to_z w64 (linear_at start.args.k end / 4294967296) ≡ r (start.args.n *ℤ start.args.k.rise) start.args.k.d
-  found_linear = let h = start.pre in linear_reads_back h.0 h.3 (bracketed low) sure
+  found_linear = let h = start.requires in linear_reads_back h.0 h.3 (bracketed low) sure
 
-cast_units_of : tie.Need-overflow-cast-units-of
+cast_units_of : tie.Need-overflow_cast-x
 cast_units_of c = search rules
 
-cast_units_of_2 : tie.Need-overflow-cast-units-of-2
+cast_units_of_2 : tie.Need-overflow_cast-linear-2
 cast_units_of_2 c = let h = (start c).requires in rw (reads_back (rise_fits h.0)) (record { sfits = omega (arith, product_at_most h.0 h.3 (bracketed (low c))) })
 
-units_of_requires : tie.Need-units-of-requires
+units_of_requires : tie.Need-units_of-requires
 units_of_requires c κs =
     let e = c.before.before in
     let h = (start e).requires in
     rw (start_reads_back h.0 h.1, curve_reads_back h.0 h.1, reads_back (rise_fits h.0), found_x e, found_linear e)
     (start_bounded h.0, four_tnl_bounded h.0.tnl, x_bounded h.0 h.2 h.3, linear_bounded h.0 h.2 h.3)
 
-returns_2 : tie.Need-returns-2
+returns_2 : tie.Need-returns
 unfolding temperature
 returns_2 c =
     let e = c.before.before.before in
     let s = start e in
-    let h = s.pre in
-    reads_back (record { sfits = c.units_of.type-inv })
+    let h = s.requires in
+    reads_back (record { sfits = c.units_of.type_inv })
     ∙ (rw (start_reads_back h.0 h.1, curve_reads_back h.0 h.1, reads_back (rise_fits h.0), found_x e, found_linear e) at c.units_of.ensures)
     ∙ units_from_start s.args.k.tc (r (s.args.n *ℤ s.args.k.rise) s.args.k.d) (X s.args.n s.args.k.d) s.args.k.tnl
 
 pub units_spec : {M : Type 1} → statement M
 units_spec =
     tie.close
-    (tie.spec
-    low_end_requires
-    add_x
-    cast_linear
-    mul_linear
-    add_linear
-    unsure_requires
-    divided_units_requires
-    returns
-    cast_units_of
-    cast_units_of_2
-    units_of_requires
-    returns_2)
+    (tie.spec low_end_requires add_x cast_linear mul_linear add_linear unsure_requires divided_units_requires returns cast_units_of cast_units_of_2 units_of_requires returns_2)

@@ -18,30 +18,30 @@ module _ {start curve x linear : ℤ} (h : Bounded start (pos 1037410) × Bounde
   units_fit : SFits w64 (start +ℤ linear +ℤ (bend_of x curve +ℤ pos 1048576))
   units_fit = bounded_fits (units_bounded h.0 h.1 h.2 h.3) (lit< tt)
 
-add_result : tie.Need-overflow-add-result
+add_result : tie.Need-overflow_add-result
 add_result c = rw (reads_back c.ranges.start, reads_back c.ranges.linear) (sum_fits c.requires)
 
-raised_bend_requires : tie.Need-raised-bend-requires
+raised_bend_requires : tie.Need-raised_bend-requires
 raised_bend_requires c κs = rw (reads_back c.ranges.x, reads_back c.ranges.curve) (c.requires.2, c.requires.1)
 
-module _ (c : tie.After-raised-bend) where
+module _ (c : tie.After-raised_bend) where
   abbrev start : tie.Start
   start = c.before
 
-  bend_reads_back : to_z w64 (of_z w64 c.raised-bend.result) ≡ bend_of start.args.x start.args.curve +ℤ pos 1048576
+  bend_reads_back : to_z w64 (of_z w64 c.raised_bend.result) ≡ bend_of start.args.x start.args.curve +ℤ pos 1048576
   bend_reads_back =
-      result_reads_back c.raised-bend.result c.raised-bend.type-inv
-      ∙ rw (reads_back start.fits.x, reads_back start.fits.curve) at c.raised-bend.ensures
+      result_reads_back c.raised_bend.result c.raised_bend.type_inv
+      ∙ rw (reads_back start.fits.x, reads_back start.fits.curve) at c.raised_bend.ensures
 
-add_result_2 : tie.Need-overflow-add-result-2
+add_result_2 : tie.Need-overflow_add-result-2
 add_result_2 c =
     let s = start c in
-    rw (reads_back s.fits.start, reads_back s.fits.linear, reads_back (sum_fits s.pre), bend_reads_back c) (units_fit s.pre)
+    rw (reads_back s.fits.start, reads_back s.fits.linear, reads_back (sum_fits s.requires), bend_reads_back c) (units_fit s.requires)
 
 returns : tie.Need-returns
 returns c =
     let s = start c in
-    rw (reads_back s.fits.start, reads_back s.fits.linear, reads_back (sum_fits s.pre), bend_reads_back c, reads_back (units_fit s.pre))
+    rw (reads_back s.fits.start, reads_back s.fits.linear, reads_back (sum_fits s.requires), bend_reads_back c, reads_back (units_fit s.requires))
 
 pub units_of_spec : {M : Type 1} → statement M
 units_of_spec = tie.close (tie.spec add_result raised_bend_requires add_result_2 returns)

@@ -5,22 +5,22 @@ use Rattle.lists.proofs.Put.{part_is_take, length_part, copied_whole}
 use Rattle.state.proofs.bytes_at.Statement.{statement}
 use Rattle.state.proofs.bytes_at.Tie as tie
 
-add_end : tie.Need-overflow-add-end
+add_end : tie.Need-overflow_add-end
 add_end c = search rules
 
-sub_copy : tie.Need-overflow-sub-copy
+sub_copy : tie.Need-slice_bounds-copy_from_slice-count
 sub_copy c = search rules
 
-part_copy_start : tie.Need-slice-bounds-copy-start
+part_copy_start : tie.Need-slice_bounds-copy_from_slice-start
 part_copy_start c = search rules
 
-part_copy_end : tie.Need-slice-bounds-copy-end
+part_copy_end : tie.Need-slice_bounds-copy_from_slice-end
 part_copy_end c = search rules
 
-copy_requires : tie.Need-copy-requires
+copy_requires : tie.Need-copy_from_slice-requires
 copy_requires c κs = search rules
 
-same_length : tie.Need-same-length
+same_length : tie.Need-shape_of-out
 same_length c = search rules
 
 returns : tie.Need-returns
@@ -28,8 +28,8 @@ returns c =
     let copy = c.before.before in
     let start = copy.before.before.before.before.before in
     let state = start.args.state.now in
-    let n = length start.args.out.now in
-    copied_whole (take n (drop start.args.at state)) start.args.out.now _ (length_part state start.args.at n start.requires) (rw (part_is_take state start.args.at n) at copy.copy.ensures.1)
+    let n = length start.args.out-1.now in
+    copied_whole (take n (drop start.args.at state)) start.args.out-1.now _ (length_part state start.args.at n start.requires) (rw (part_is_take state start.args.at n) at copy.copy.ensures.1)
 
 pub bytes_at_spec : {M : Type 1} → statement M
 bytes_at_spec =

@@ -7,31 +7,25 @@ use borrow.Author.Rules.{rules}
 use Rattle.state.proofs.front_is_right.Statement.{statement}
 use Rattle.state.proofs.front_is_right.Tie as tie
 
-slice_aggregate_layout_is_right : tie.Need-slice-aggregate-layout-is-right
-slice_aggregate_layout_is_right c = search rules
-
-slice_aggregate_layout_is_right_2 : tie.Need-slice-aggregate-layout-is-right-2
-slice_aggregate_layout_is_right_2 c = search rules
-
-layout_is_right_requires : tie.Need-layout-is-right-requires
+layout_is_right_requires : tie.Need-layout_is_right-requires
 layout_is_right_requires c κs = (refl, rw (ap layout_size lent_layout) c.before.before.before.requires)
 
-u32_at_requires : tie.Need-u32-at-requires
+u32_at_requires : tie.Need-u32_at-requires
 u32_at_requires c κs = search rules
 
-add_u32_at : tie.Need-overflow-add-u32-at
+add_u32_at : tie.Need-overflow_add-u32_at
 add_u32_at c = search rules
 
-u32_at_requires_2 : tie.Need-u32-at-requires-2
+u32_at_requires_2 : tie.Need-u32_at-requires-2
 u32_at_requires_2 c κs = search rules
 
-shared_slice_read_t16 : tie.Need-shared-slice-read-t16
+shared_slice_read_t16 : tie.Need-bounds-state-1421
 shared_slice_read_t16 c = search rules
 
-slice_aggregate_all_hold : tie.Need-slice-aggregate-all-hold
+slice_aggregate_all_hold : tie.Need-slice_bounds-all_hold-end
 slice_aggregate_all_hold c = search rules
 
-all_hold_requires : tie.Need-all-hold-requires
+all_hold_requires : tie.Need-all_hold-requires
 all_hold_requires c κs = search rules
 
 returns : tie.Need-returns
@@ -41,19 +35,9 @@ returns c =
     let magic = version.before in
     let l = magic.before in
     let state = l.before.before.before.before.args.state.now in
-    c.all_hold.ensures ∙ rw (l.layout-is-right.ensures ∙ ap (layout_is_right state 0) lent_layout, magic.u32-at.ensures, version.u32-at2.ensures)
+    c.all_hold.ensures ∙ rw (l.layout_is_right.ensures ∙ ap (layout_is_right state 0) lent_layout, magic.u32_at.ensures, version.u32_at-2.ensures)
 
 pub front_is_right_spec : {M : Type 1} → statement M
 front_is_right_spec =
     tie.close
-    (tie.spec
-    slice_aggregate_layout_is_right
-    slice_aggregate_layout_is_right_2
-    layout_is_right_requires
-    u32_at_requires
-    add_u32_at
-    u32_at_requires_2
-    shared_slice_read_t16
-    slice_aggregate_all_hold
-    all_hold_requires
-    returns)
+    (tie.spec layout_is_right_requires u32_at_requires add_u32_at u32_at_requires_2 shared_slice_read_t16 slice_aggregate_all_hold all_hold_requires returns)

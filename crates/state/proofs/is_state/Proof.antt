@@ -12,84 +12,84 @@ use Rattle.state.proofs.is_state_lem.Statement.{statement}
 use Rattle.state.proofs.is_state_lem.Tie as tie
 
 -- the table was not refused
-abbrev start_of : tie.Else3 → tie.Start
+abbrev start_of : tie.Else-refusal_number-ne0 → tie.Start
 start_of x = x.before.before.before.before.before.before.before.before
 
-table_passed : (x : tie.Else3) → opening (table_in (start_of x).args.state.now) ≡ passes
+table_passed : (x : tie.Else-refusal_number-ne0) → opening (table_in (start_of x).args.state.now) ≡ passes
 table_passed x =
     let number = x.before in
     let opened = number.before in
-    passed_at_zero opened.«open».result.answer opened.«open».ensures.0 number.refusal-number.ensures x.if3.false
+    passed_at_zero opened.«open».result.answer opened.«open».ensures.0 number.refusal_number.ensures x.if-refusal_number-ne0.false
 
-returns : tie.Need-returns
-returns c = sym (short_is_no_state c.before.before.args.state.now c.if1.true)
+returns : tie.Need-returns-then-state-lt-STATE_SIZE
+returns c = sym (short_is_no_state c.before.before.args.state.now c.if-state-lt-STATE_SIZE.true)
 
-front_is_right_requires : tie.Need-front-is-right-requires
+front_is_right_requires : tie.Need-front_is_right-requires
 front_is_right_requires c κs = search rules
 
-returns_2 : tie.Need-returns-2
+returns_2 : tie.Need-returns-then-not-front_is_right
 returns_2 c =
     let front = c.before in
     let state = front.before.before.before.args.state.now in
-    sym (wrong_front_is_no_state state (test_failed front.front_is_right_lem.ensures c.if2.true))
+    sym (wrong_front_is_no_state state (test_failed front.front_is_right_lem.ensures c.if-not-front_is_right.true-raw))
 
-add_open : tie.Need-overflow-add-open
+add_open : tie.Need-overflow_add-open
 add_open c = search rules
 
-sub_open : tie.Need-overflow-sub-open
+sub_open : tie.Need-slice_bounds-open-count
 sub_open c = search rules
 
-part_open_start : tie.Need-slice-bounds-open-start
+part_open_start : tie.Need-slice_bounds-open-start
 part_open_start c = search rules
 
-part_open_end : tie.Need-slice-bounds-open-end
+part_open_end : tie.Need-slice_bounds-open-end
 part_open_end c = search rules
 
-open_requires : tie.Need-open-requires
+open_requires : tie.Need-open-opened-requires
 open_requires c κs = search rules
 
-refusal_number_requires : tie.Need-refusal-number-requires
+refusal_number_requires : tie.Need-refusal_number-requires
 refusal_number_requires c κs = search rules
 
-returns_3 : tie.Need-returns-3
+returns_3 : tie.Need-returns-then-refusal_number-ne0
 returns_3 c =
     let number = c.before in
     let opened = number.before in
     let state = opened.before.before.before.before.before.before.args.state.now in
-    let is = number_is opened.«open».result.answer opened.«open».ensures.0 number.refusal-number.ensures in
-    sym (refused_is_no_state state (both_by_table (table_in state) (bias_in state) is c.if3.true) c.if3.true)
+    let is = number_is opened.«open».result.answer opened.«open».ensures.0 number.refusal_number.ensures in
+    sym (refused_is_no_state state (both_by_table (table_in state) (bias_in state) is c.if-refusal_number-ne0.true) c.if-refusal_number-ne0.true)
 
-add_open_2 : tie.Need-overflow-add-open-2
+add_open_2 : tie.Need-overflow_add-open-2
 add_open_2 c = search rules
 
-sub_open_2 : tie.Need-overflow-sub-open-2
+sub_open_2 : tie.Need-slice_bounds-open-count-2
 sub_open_2 c = search rules
 
-part_open_start_2 : tie.Need-slice-bounds-open-start-2
+part_open_start_2 : tie.Need-slice_bounds-open-start-2
 part_open_start_2 c = search rules
 
-part_open_end_2 : tie.Need-slice-bounds-open-end-2
+part_open_end_2 : tie.Need-slice_bounds-open-end-2
 part_open_end_2 c = search rules
 
-open_requires_2 : tie.Need-open-requires-2
+open_requires_2 : tie.Need-open-second-requires
 open_requires_2 c κs = search rules
 
-refusal_number_requires_2 : tie.Need-refusal-number-requires-2
+refusal_number_requires_2 : tie.Need-refusal_number-requires-2
 refusal_number_requires_2 c κs = search rules
 
-returns_4 : tie.Need-returns-4
+returns_4 : tie.Need-returns-then-refusal_number-ne0-2
 returns_4 c =
     let number = c.before in
     let opened = number.before in
     let third = opened.before.before in
     let state = (start_of third).args.state.now in
-    let is = number_is opened.open2.result.answer opened.open2.ensures.0 number.refusal-number2.ensures in
-    sym (refused_is_no_state state (both_by_bias (table_in state) (bias_in state) (table_passed third) is) c.if4.true)
+    let is = number_is opened.open-second.result.answer opened.open-second.ensures.0 number.refusal_number-2.ensures in
+    sym (refused_is_no_state state (both_by_bias (table_in state) (bias_in state) (table_passed third) is) c.if-refusal_number-ne0-2.true)
 
-values_inside_requires : tie.Need-values-inside-requires
+values_inside_requires : tie.Need-values_inside-requires
 values_inside_requires c κs = search rules
 
-returns_5 : tie.Need-returns-5
+returns_5 : tie.Need-returns
 returns_5 c =
     let fourth = c.before in
     let number = fourth.before in
@@ -97,30 +97,11 @@ returns_5 c =
     let third = opened.before.before in
     let second = third.before.before.before.before in
     let front = second.before in
-    let also = passed_at_zero opened.open2.result.answer opened.open2.ensures.0 number.refusal-number2.ensures fourth.if4.false in
-    c.values-inside.ensures
-    ∙ sym (state_by_values (start_of third).args.state.now front.before.if1.false (test_passed front.front_is_right_lem.ensures second.if2.false) (both_pass _ _ (table_passed third) also))
+    let also = passed_at_zero opened.open-second.result.answer opened.open-second.ensures.0 number.refusal_number-2.ensures fourth.if-refusal_number-ne0-2.false in
+    c.values_inside.ensures
+    ∙ sym (state_by_values (start_of third).args.state.now front.before.if-state-lt-STATE_SIZE.false (test_passed front.front_is_right_lem.ensures second.if-not-front_is_right.false-raw) (both_pass _ _ (table_passed third) also))
 
 pub is_state_spec : {M : Type 1} → statement M
 is_state_spec =
     tie.close
-    (tie.spec
-    returns
-    front_is_right_requires
-    returns_2
-    add_open
-    sub_open
-    part_open_start
-    part_open_end
-    open_requires
-    refusal_number_requires
-    returns_3
-    add_open_2
-    sub_open_2
-    part_open_start_2
-    part_open_end_2
-    open_requires_2
-    refusal_number_requires_2
-    returns_4
-    values_inside_requires
-    returns_5)
+    (tie.spec returns front_is_right_requires returns_2 add_open sub_open part_open_start part_open_end open_requires refusal_number_requires returns_3 add_open_2 sub_open_2 part_open_start_2 part_open_end_2 open_requires_2 refusal_number_requires_2 returns_4 values_inside_requires returns_5)

@@ -7,23 +7,23 @@ use borrow.Author.Rules.{rules}
 use Rattle.state.proofs.last_bytes.Statement.{statement}
 use Rattle.state.proofs.last_bytes.Tie as tie
 
-byte_of_requires : tie.Need-byte-of-requires
+byte_of_requires : tie.Need-byte_of-requires
 byte_of_requires c κs = search rules
 
-array_write_bytes : tie.Need-array-write-bytes
+array_write_bytes : tie.Need-bounds-bytes-0
 array_write_bytes c = search rules
 
-slice_aggregate_put_u32 : tie.Need-slice-aggregate-put-u32
+slice_aggregate_put_u32 : tie.Need-slice_bounds-put_u32-end
 slice_aggregate_put_u32 c = search rules
 
-put_u32_requires : tie.Need-put-u32-requires
+put_u32_requires : tie.Need-put_u32-requires
 put_u32_requires c κs = search rules
 
 returns : tie.Need-returns
 returns c =
     let w = c.before in
     let b = w.before.before in
-    w.put-u32.ensures ∙ ap (λ (byte : ℕ). byte ∷ u32_bytes b.before.args.last) b.byte_of.ensures
+    w.put_u32.ensures ∙ ap (λ (byte : ℕ). byte ∷ u32_bytes b.before.args.last) b.byte_of.ensures
 
 pub last_bytes_spec : {M : Type 1} → statement M
 last_bytes_spec =

@@ -8,22 +8,22 @@ use Rattle.state.proofs.StateLaws.{length_last_numbers}
 use Rattle.state.proofs.last_in.Statement.{statement}
 use Rattle.state.proofs.last_in.Tie as tie
 
-last_numbers_in_requires : tie.Need-last-numbers-in-requires
+last_numbers_in_requires : tie.Need-last_numbers_in-numbers-requires
 last_numbers_in_requires c κs = search rules
 
-slice_aggregate_last_by : tie.Need-slice-aggregate-last-by
+slice_aggregate_last_by : tie.Need-slice_bounds-last_by-end
 slice_aggregate_last_by c = search rules
 
-last_by_requires : tie.Need-last-by-requires
+last_by_requires : tie.Need-last_by-requires
 last_by_requires c κs =
     let read = c.before in
     let start = read.before.before in
     let state = start.args.state.now in
     let long = length_last_numbers state in
-    rw read.last-numbers-in.ensures (long, inside_is_small (window_in state).any (last_numbers_in state) long start.requires.1)
+    rw read.last_numbers_in-numbers.ensures (long, inside_is_small (window_in state).any (last_numbers_in state) long start.requires.1)
 
 returns : tie.Need-returns
-returns c = c.last-by.ensures ∙ ap last_by c.before.before.last-numbers-in.ensures
+returns c = c.last_by.ensures ∙ ap last_by c.before.before.last_numbers_in-numbers.ensures
 
 pub last_in_spec : {M : Type 1} → statement M
 last_in_spec =

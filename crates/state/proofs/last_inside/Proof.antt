@@ -2,11 +2,11 @@
 use Rattle.state.proofs.last_inside.Statement.{statement}
 use Rattle.state.proofs.last_inside.Tie as tie
 
-returns : tie.Need-returns
-returns c = rw c.if1.true
+returns : tie.Need-returns-then-any
+returns c = rw c.if-any.true
 
-returns_2 : tie.Need-returns-2
-returns_2 c = rw c.if1.false
+returns_2 : tie.Need-returns
+returns_2 c = rw c.if-any.false
 
 pub last_inside_spec : {M : Type 1} → statement M
 last_inside_spec = tie.close (tie.spec returns returns_2)

@@ -17,49 +17,49 @@ window_of start =
     let a = start.args in
     record { any = a.any; last = a.last; warm = a.warm.now; cold = a.cold.now; kelvin = a.kelvin.now }
 
-last_bytes_requires : tie.Need-last-bytes-requires
+last_bytes_requires : tie.Need-last_bytes-bytes-requires
 last_bytes_requires c κs = search rules
 
-sub_put_field : tie.Need-overflow-sub-put-field
+sub_put_field : tie.Need-overflow_sub-put_field
 sub_put_field c = search rules
 
-array_read_put_field : tie.Need-array-read-put-field
+array_read_put_field : tie.Need-bounds-2
 array_read_put_field c = search rules
 
-slice_aggregate_put_field : tie.Need-slice-aggregate-put-field
+slice_aggregate_put_field : tie.Need-slice_bounds-put_field-end
 slice_aggregate_put_field c = search rules
 
-put_field_requires : tie.Need-put-field-requires
+put_field_requires : tie.Need-put_field-requires
 put_field_requires c κs = search rules
 
-sub_put_number_field : tie.Need-overflow-sub-put-number-field
+sub_put_number_field : tie.Need-overflow_sub-put_number_field
 sub_put_number_field c = search rules
 
-array_read_put_number_field : tie.Need-array-read-put-number-field
+array_read_put_number_field : tie.Need-bounds-3
 array_read_put_number_field c = search rules
 
-put_number_field_requires : tie.Need-put-number-field-requires
+put_number_field_requires : tie.Need-put_number_field-requires
 put_number_field_requires c κs = search rules
 
-sub_put_number_field_2 : tie.Need-overflow-sub-put-number-field-2
+sub_put_number_field_2 : tie.Need-overflow_sub-put_number_field-2
 sub_put_number_field_2 c = search rules
 
-array_read_put_number_field_2 : tie.Need-array-read-put-number-field-2
+array_read_put_number_field_2 : tie.Need-bounds-4
 array_read_put_number_field_2 c = search rules
 
-put_number_field_requires_2 : tie.Need-put-number-field-requires-2
+put_number_field_requires_2 : tie.Need-put_number_field-requires-2
 put_number_field_requires_2 c κs = search rules
 
-sub_put_number_field_3 : tie.Need-overflow-sub-put-number-field-3
+sub_put_number_field_3 : tie.Need-overflow_sub-put_number_field-3
 sub_put_number_field_3 c = search rules
 
-array_read_put_number_field_3 : tie.Need-array-read-put-number-field-3
+array_read_put_number_field_3 : tie.Need-bounds-5
 array_read_put_number_field_3 c = search rules
 
-put_number_field_requires_3 : tie.Need-put-number-field-requires-3
+put_number_field_requires_3 : tie.Need-put_number_field-requires-3
 put_number_field_requires_3 c κs = search rules
 
-same_length : tie.Need-same-length
+same_length : tie.Need-shape_of-out
 same_length c = search rules
 
 returns : tie.Need-returns
@@ -71,29 +71,13 @@ returns c =
     let bytes = last.before.before.before in
     let start = bytes.before.before.before.before.before in
     let a = start.args in
-    window_put (window_of start) (record { warm = start.requires.1; cold = start.requires.2; kelvin = start.requires.3 }) a.out.now start.requires.0
-    (last.put-field.ensures ∙ ap (λ (l : List ℕ). put a.out.now window_start (field_bytes (field 0x32 (length l)) l)) bytes.last-bytes.ensures)
-    warm.put-number-field.ensures
-    cold.put-number-field2.ensures
-    kelvin.put-number-field3.ensures
+    window_put (window_of start) (record { warm = start.requires.1; cold = start.requires.2; kelvin = start.requires.3 }) a.out-1.now start.requires.0
+    (last.put_field.ensures ∙ ap (λ (l : List ℕ). put a.out-1.now window_start (field_bytes (field 0x32 (length l)) l)) bytes.last_bytes-bytes.ensures)
+    warm.put_number_field.ensures
+    cold.put_number_field-2.ensures
+    kelvin.put_number_field-3.ensures
 
 pub put_window_spec : {M : Type 1} → statement M
 put_window_spec =
     tie.close
-    (tie.spec
-    last_bytes_requires
-    sub_put_field
-    array_read_put_field
-    slice_aggregate_put_field
-    put_field_requires
-    sub_put_number_field
-    array_read_put_number_field
-    put_number_field_requires
-    sub_put_number_field_2
-    array_read_put_number_field_2
-    put_number_field_requires_2
-    sub_put_number_field_3
-    array_read_put_number_field_3
-    put_number_field_requires_3
-    same_length
-    returns)
+    (tie.spec last_bytes_requires sub_put_field array_read_put_field slice_aggregate_put_field put_field_requires sub_put_number_field array_read_put_number_field put_number_field_requires sub_put_number_field_2 array_read_put_number_field_2 put_number_field_requires_2 sub_put_number_field_3 array_read_put_number_field_3 put_number_field_requires_3 same_length returns)

@@ -17,83 +17,83 @@ use borrow.Author.Rules.{rules}
 use Rattle.state.proofs.save.Statement.{statement}
 use Rattle.state.proofs.save.Tie as tie
 
-shaped : (x : tie.After-kelvin) → Shaped x.before.before.before.before.before.before.before.args.window
+shaped : (x : tie.After-kelvin-1) → Shaped x.before.before.before.before.before.before.before.args.window
 shaped x = record { warm = search rules; cold = search rules; kelvin = search rules }
 
 -- where the window was taken apart, from where its fields are put
-abbrev window_read : tie.After-warm2 → tie.After-kelvin
+abbrev window_read : tie.After-warm-2-1 → tie.After-kelvin-1
 window_read c = c.before.before.before.before.before.before.before.before.before.before.before.before
 
-front_bytes_requires : tie.Need-front-bytes-requires
+front_bytes_requires : tie.Need-front_bytes-front-requires
 front_bytes_requires c κs = search rules
 
-numbers_of_requires : tie.Need-numbers-of-requires
+numbers_of_requires : tie.Need-numbers_of-numbers-requires
 numbers_of_requires c κs = search rules
 
-array_read_put_field : tie.Need-array-read-put-field
+array_read_put_field : tie.Need-bounds-0
 array_read_put_field c = search rules
 
-slice_aggregate_put_field : tie.Need-slice-aggregate-put-field
+slice_aggregate_put_field : tie.Need-slice_bounds-put_field-end
 slice_aggregate_put_field c = search rules
 
-put_field_requires : tie.Need-put-field-requires
+put_field_requires : tie.Need-put_field-requires
 put_field_requires c κs = search rules
 
-sub_put_field : tie.Need-overflow-sub-put-field
+sub_put_field : tie.Need-overflow_sub-put_field
 sub_put_field c = search rules
 
-array_read_put_field_2 : tie.Need-array-read-put-field-2
+array_read_put_field_2 : tie.Need-bounds-1
 array_read_put_field_2 c = search rules
 
-put_field_requires_2 : tie.Need-put-field-requires-2
+put_field_requires_2 : tie.Need-put_field-requires-2
 put_field_requires_2 c κs =
     let f = c.before.before.before in
     let start = f.before.before.before.before.before.before.before.before.before.before.before in
     let long = accepted_length start.requires.1 in
-    (omega (arith, long), omega (arith, long, f.put-field.auto.0, start.requires.0))
+    (omega (arith, long), omega (arith, long, f.put_field.auto.0, start.requires.0))
 
-slice_aggregate_put_window : tie.Need-slice-aggregate-put-window
-slice_aggregate_put_window c = sym (shaped (window_read c)).warm
+slice_aggregate_put_window : tie.Need-slice_bounds-put_window-end
+slice_aggregate_put_window c = sym (shaped (window_read c)).warm-1
 
-slice_aggregate_put_window_2 : tie.Need-slice-aggregate-put-window-2
-slice_aggregate_put_window_2 c = sym (shaped (window_read c.before)).cold
+slice_aggregate_put_window_2 : tie.Need-slice_bounds-put_window-end-2
+slice_aggregate_put_window_2 c = sym (shaped (window_read c.before)).cold-1
 
-slice_aggregate_put_window_3 : tie.Need-slice-aggregate-put-window-3
-slice_aggregate_put_window_3 c = sym (shaped (window_read c.before.before)).kelvin
+slice_aggregate_put_window_3 : tie.Need-slice_bounds-put_window-end-3
+slice_aggregate_put_window_3 c = sym (shaped (window_read c.before.before)).kelvin-1
 
-put_window_requires : tie.Need-put-window-requires
+put_window_requires : tie.Need-put_window-requires
 put_window_requires c κs =
     let long = shaped (window_read c.before.before) in
-    (omega arith, long.warm, long.cold, long.kelvin)
+    (omega arith, long.warm-1, long.cold-1, long.kelvin-1)
 
-sub_put_field_2 : tie.Need-overflow-sub-put-field-2
+sub_put_field_2 : tie.Need-overflow_sub-put_field-2
 sub_put_field_2 c = search rules
 
-array_read_put_field_3 : tie.Need-array-read-put-field-3
+array_read_put_field_3 : tie.Need-bounds-6
 array_read_put_field_3 c = search rules
 
-put_field_requires_3 : tie.Need-put-field-requires-3
+put_field_requires_3 : tie.Need-put_field-requires-3
 put_field_requires_3 c κs =
     let w = c.before.before.before in
     let t = w.before.before.before.before.before.before.before in
     let f = t.before.before.before.before in
     let start = f.before.before.before.before.before.before.before.before.before.before.before in
     let long = accepted_bias_length start.requires.2 in
-    (omega (arith, long), omega (arith, long, w.put-window.auto.0, t.put-field2.auto.0, f.put-field.auto.0, start.requires.0))
+    (omega (arith, long), omega (arith, long, w.put_window.auto.0, t.put_field-2.auto.0, f.put_field.auto.0, start.requires.0))
 
-sub_put_number_field : tie.Need-overflow-sub-put-number-field
+sub_put_number_field : tie.Need-overflow_sub-put_number_field
 sub_put_number_field c = search rules
 
-array_read_put_number_field : tie.Need-array-read-put-number-field
+array_read_put_number_field : tie.Need-bounds-7
 array_read_put_number_field c = search rules
 
-slice_aggregate_put_number_field : tie.Need-slice-aggregate-put-number-field
+slice_aggregate_put_number_field : tie.Need-slice_bounds-put_number_field-end
 slice_aggregate_put_number_field c = search rules
 
-put_number_field_requires : tie.Need-put-number-field-requires
+put_number_field_requires : tie.Need-put_number_field-requires
 put_number_field_requires c κs = search rules
 
-same_length : tie.Need-same-length
+same_length : tie.Need-shape_of-state
 same_length c = search rules
 
 returns : tie.Need-returns
@@ -108,35 +108,14 @@ returns c =
     let front = window.before.before.before in
     let start = front.before.before.before.before in
     let a = start.args in
-    state_put (calibrator_with a.table.now a.bias.now a.window a.last) (shaped window) (accepted_length start.requires.1) (accepted_bias_length start.requires.2) a.state.now start.requires.0
-    (f.put-field.ensures ∙ ap (λ (l : List ℕ). put a.state.now 0 (field_bytes (field 0x30 (length l)) l)) front.front_Bytes.ensures)
-    t.put-field2.ensures
-    w.put-window.ensures
-    b.put-field3.ensures
-    (kept.put-number-field.ensures ∙ ap (λ (l : List ℕ). put b.put-field3.new.0 (field_start state_layout 7) (field_bytes (field 0x37 (4 * length l)) (number_bytes l))) numbers.Numbers-of.ensures)
+    state_put (calibrator_with a.table.now a.bias.now a.window a.last) (shaped window) (accepted_length start.requires.1) (accepted_bias_length start.requires.2) a.state-1.now start.requires.0
+    (f.put_field.ensures ∙ ap (λ (l : List ℕ). put a.state-1.now 0 (field_bytes (field 0x30 (length l)) l)) front.front_Bytes.ensures)
+    t.put_field-2.ensures
+    w.put_window.ensures
+    b.put_field-3.ensures
+    (kept.put_number_field.ensures ∙ ap (λ (l : List ℕ). put b.put_field-3.new.0 (field_start state_layout 7) (field_bytes (field 0x37 (4 * length l)) (number_bytes l))) numbers.Numbers-of.ensures)
 
 pub save_spec : {M : Type 1} → statement M
 save_spec =
     tie.close
-    (tie.spec
-    front_bytes_requires
-    numbers_of_requires
-    array_read_put_field
-    slice_aggregate_put_field
-    put_field_requires
-    sub_put_field
-    array_read_put_field_2
-    put_field_requires_2
-    slice_aggregate_put_window
-    slice_aggregate_put_window_2
-    slice_aggregate_put_window_3
-    put_window_requires
-    sub_put_field_2
-    array_read_put_field_3
-    put_field_requires_3
-    sub_put_number_field
-    array_read_put_number_field
-    slice_aggregate_put_number_field
-    put_number_field_requires
-    same_length
-    returns)
+    (tie.spec front_bytes_requires numbers_of_requires array_read_put_field slice_aggregate_put_field put_field_requires sub_put_field array_read_put_field_2 put_field_requires_2 slice_aggregate_put_window slice_aggregate_put_window_2 slice_aggregate_put_window_3 put_window_requires sub_put_field_2 array_read_put_field_3 put_field_requires_3 sub_put_number_field array_read_put_number_field slice_aggregate_put_number_field put_number_field_requires same_length returns)

@@ -26,10 +26,10 @@ module _ (table bias : List ℕ) (lent : Lent) (answers : List ℕ) where
       (n ≡ number_of verdict) × (answered ≡ answers_by verdict table bias lent answers)
       × (written ≡ buffers_by verdict table bias lent (length answers))
 
-  refused_writes_nothing : {n : ℕ} → n ≡ number_of (both_opening table bias) → (n ≡ 0 → ⊥) → LeftBy (both_opening table bias) n answers lent.buffers
+  refused_writes_nothing : {n : ℕ} → n ≡ number_of (both_opening table bias) → (n ≡ 0 → ⊥) → LeftBy (both_opening table bias) n answers lent.buffers-1
   refused_writes_nothing = by_verdict (both_opening table bias)
     where
-      by_verdict : (verdict : Verdict) → {n : ℕ} → n ≡ number_of verdict → (n ≡ 0 → ⊥) → LeftBy verdict n answers lent.buffers
+      by_verdict : (verdict : Verdict) → {n : ℕ} → n ≡ number_of verdict → (n ≡ 0 → ⊥) → LeftBy verdict n answers lent.buffers-1
       by_verdict passes is some = absurd (some is)
       by_verdict (fails k) is some = (is, refl, refl)
 
@@ -41,47 +41,47 @@ module _ (table bias : List ℕ) (lent : Lent) (answers : List ℕ) where
       subst (λ (verdict : Verdict). LeftBy verdict 0 answered written) (sym passed) (refl, rw fresh at answers-are, rw fresh at buffers-are)
 
 -- ---- neither was refused
-abbrev start_of : tie.Else1 → tie.Start
+abbrev start_of : tie.Else-number-ne0 → tie.Start
 start_of x = x.before.before.before.before.before.before.before.before.before.before
 
-table_passed : (x : tie.Else1) → opening (start_of x).args.table.now ≡ passes
+table_passed : (x : tie.Else-number-ne0) → opening (start_of x).args.table.now ≡ passes
 table_passed x =
     let number = x.before in
     let opened = number.before in
-    passed_at_zero opened.«open».result.answer opened.«open».ensures.0 number.refusal-number.ensures x.if1.false
+    passed_at_zero opened.«open».result.answer opened.«open».ensures.0 number.refusal_number-number.ensures x.if-number-ne0.false
 
-bias_passed : (x : tie.Else2) → bias_opening (start_of x.before.before.before).args.bias.now ≡ passes
+bias_passed : (x : tie.Else-after-ne0) → bias_opening (start_of x.before.before.before).args.bias.now ≡ passes
 bias_passed x =
     let number = x.before in
     let opened = number.before in
-    passed_at_zero opened.open2.result.answer opened.open2.ensures.0 number.refusal-number2.ensures x.if2.false
+    passed_at_zero opened.open-opened_bias.result.answer opened.open-opened_bias.ensures.0 number.refusal_number-after.ensures x.if-after-ne0.false
 
-open_requires : tie.Need-open-requires
+open_requires : tie.Need-open-opened-requires
 open_requires c κs = search rules
 
-refusal_number_requires : tie.Need-refusal-number-requires
+refusal_number_requires : tie.Need-refusal_number-number-requires
 refusal_number_requires c κs = search rules
 
-returns : tie.Need-returns
+returns : tie.Need-returns-then-number-ne0
 returns c =
     let number = c.before in
     let opened = number.before in
-    let is = number_is opened.«open».result.answer opened.«open».ensures.0 number.refusal-number.ensures in
-    refused_writes_nothing _ _ _ _ (both_by_table _ _ is c.if1.true) c.if1.true
+    let is = number_is opened.«open».result.answer opened.«open».ensures.0 number.refusal_number-number.ensures in
+    refused_writes_nothing _ _ _ _ (both_by_table _ _ is c.if-number-ne0.true) c.if-number-ne0.true
 
-open_requires_2 : tie.Need-open-requires-2
+open_requires_2 : tie.Need-open-opened_bias-requires
 open_requires_2 c κs = search rules
 
-refusal_number_requires_2 : tie.Need-refusal-number-requires-2
+refusal_number_requires_2 : tie.Need-refusal_number-after-requires
 refusal_number_requires_2 c κs = search rules
 
-returns_2 : tie.Need-returns-2
+returns_2 : tie.Need-returns-then-after-ne0
 returns_2 c =
     let number = c.before in
     let opened = number.before in
     let first = opened.before in
-    let is = number_is opened.open2.result.answer opened.open2.ensures.0 number.refusal-number2.ensures in
-    refused_writes_nothing _ _ _ _ (both_by_bias _ _ (table_passed first) is) c.if2.true
+    let is = number_is opened.open-opened_bias.result.answer opened.open-opened_bias.ensures.0 number.refusal_number-after.ensures in
+    refused_writes_nothing _ _ _ _ (both_by_bias _ _ (table_passed first) is) c.if-after-ne0.true
 
 table_requires : tie.Need-table-requires
 table_requires c κs = search rules
@@ -96,19 +96,19 @@ fresh_requires c κs =
     let first = biasOpened.before in
     let opened = first.before.before in (
       handed_table_accepted _ c.before.table.ensures opened.«open».ensures.1 (table_passed first),
-      handed_bias_accepted _ c.bias.ensures biasOpened.open2.ensures.1 (bias_passed second) biasOpened.open2.ensures.2,
+      handed_bias_accepted _ c.bias.ensures biasOpened.open-opened_bias.ensures.1 (bias_passed second) biasOpened.open-opened_bias.ensures.2,
     )
 
-feed_list_requires : tie.Need-feed-list-requires
+feed_list_requires : tie.Need-feed_list-requires
 feed_list_requires c κs = search rules
 
-same_length : tie.Need-same-length
+same_length : tie.Need-shape_of-buffers
 same_length c = search rules
 
-same_length_2 : tie.Need-same-length-2
+same_length_2 : tie.Need-shape_of-answers
 same_length_2 c = search rules
 
-returns_3 : tie.Need-returns-3
+returns_3 : tie.Need-returns
 returns_3 c =
     let fed = c.before.before.before.before in
     let made = fed.before.before.before in
@@ -122,24 +122,11 @@ returns_3 c =
     let also = bias_passed second in
     passed_is_fed _ _ _ _ (both_pass _ _ passed also)
     (made.fresh.ensures.0
-    ∙ ap₂ fresh_of (handed_table _ table.table.ensures opened.«open».ensures.1 passed) (handed_bias _ bias.bias.ensures biasOpened.open2.ensures.1 also))
-    fed.feed-list.ensures.0
-    fed.feed-list.ensures.1
+    ∙ ap₂ fresh_of (handed_table _ table.table.ensures opened.«open».ensures.1 passed) (handed_bias _ bias.bias.ensures biasOpened.open-opened_bias.ensures.1 also))
+    fed.feed_list.ensures.0
+    fed.feed_list.ensures.1
 
 pub sounder_feed_all_spec : {M : Type 1} → statement M
 sounder_feed_all_spec =
     tie.close
-    (tie.spec
-    open_requires
-    refusal_number_requires
-    returns
-    open_requires_2
-    refusal_number_requires_2
-    returns_2
-    table_requires
-    bias_requires
-    fresh_requires
-    feed_list_requires
-    same_length
-    same_length_2
-    returns_3)
+    (tie.spec open_requires refusal_number_requires returns open_requires_2 refusal_number_requires_2 returns_2 table_requires bias_requires fresh_requires feed_list_requires same_length same_length_2 returns_3)

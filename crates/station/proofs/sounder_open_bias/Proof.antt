@@ -4,14 +4,14 @@ use Rattle.table.proofs.OpenedLaws.{number_is}
 use Rattle.station.proofs.sounder_open_bias.Statement.{statement}
 use Rattle.station.proofs.sounder_open_bias.Tie as tie
 
-open_requires : tie.Need-open-requires
+open_requires : tie.Need-open-opened-requires
 open_requires c κs = search rules
 
-refusal_number_requires : tie.Need-refusal-number-requires
+refusal_number_requires : tie.Need-refusal_number-requires
 refusal_number_requires c κs = search rules
 
 returns : tie.Need-returns
-returns c = number_is c.before.«open».result.answer c.before.«open».ensures.0 c.refusal-number.ensures
+returns c = number_is c.before.«open».result.answer c.before.«open».ensures.0 c.refusal_number.ensures
 
 pub sounder_open_bias_spec : {M : Type 1} → statement M
 sounder_open_bias_spec = tie.close (tie.spec open_requires refusal_number_requires returns)

@@ -39,50 +39,40 @@ module _ {known told : Result} (e : known ≡ told) (before : ℤ) where
   left_by_lem : (number known ≡ number told) × (units_or known before ≡ units_or told before)
   left_by_lem = (ap number e, ap (λ (x : Result). units_or x before) e)
 
-thermometer_requires : tie.Need-thermometer-requires
+thermometer_requires : tie.Need-thermometer-answer-requires
 thermometer_requires c κs = search rules
 
-enum_known_answer : tie.Need-enum-known-answer
+enum_known_answer : tie.Need-enum_known-answer
 enum_known_answer c = search rules
 
-cast_t : tie.Need-overflow-cast-t
-cast_t c = cast_fits (reading_units_in_range _ _ _ _ _ _ _ _ (sym c.before.before.before.thermometer.ensures ∙ ap result_of c.before.answer.given.1))
+cast_t : tie.Need-overflow_cast-t
+cast_t c = cast_fits (reading_units_in_range _ _ _ _ _ _ _ _ (sym c.before.before.before.thermometer-answer.ensures ∙ ap result_of c.before.answer-1.given.1))
 
-enum_told : tie.Need-enum-told
+enum_told : tie.Need-enum_told-1
 enum_told c = search rules
 
-enum_told_2 : tie.Need-enum-told-2
+enum_told_2 : tie.Need-enum_told-in-PamNotAboveOffset
 enum_told_2 c = search rules
 
-enum_told_3 : tie.Need-enum-told-3
+enum_told_3 : tie.Need-enum_told-in-RatioOutside
 enum_told_3 c = search rules
 
-returns : tie.Need-returns
+returns : tie.Need-returns-in-Units
 returns c =
-    let e = sym (ap result_of c.before.answer.given.1) ∙ c.before.before.before.thermometer.ensures in
+    let e = sym (ap result_of c.before.answer-1.given.1) ∙ c.before.before.before.thermometer-answer.ensures in
     let left = left_by_lem e c.before.before.before.before.args.t.now in
     (left.0, cast_reads_back (reading_units_in_range _ _ _ _ _ _ _ _ (sym e)) ∙ left.1)
 
-returns_2 : tie.Need-returns-2
-returns_2 c = left_by_lem (sym (ap result_of c.enum_told.given.1) ∙ c.before.before.thermometer.ensures) c.before.before.before.args.t.now
+returns_2 : tie.Need-returns-in-CoefficientOutside
+returns_2 c = left_by_lem (sym (ap result_of c.enum_told-1.given.1) ∙ c.before.before.thermometer-answer.ensures) c.before.before.before.args.t.now
 
-returns_3 : tie.Need-returns-3
-returns_3 c = left_by_lem (sym (ap result_of c.enum-told2.given.1) ∙ c.before.before.thermometer.ensures) c.before.before.before.args.t.now
+returns_3 : tie.Need-returns-in-PamNotAboveOffset
+returns_3 c = left_by_lem (sym (ap result_of c.enum_told-in-PamNotAboveOffset-1.given.1) ∙ c.before.before.thermometer-answer.ensures) c.before.before.before.args.t.now
 
-returns_4 : tie.Need-returns-4
-returns_4 c = left_by_lem (sym (ap result_of c.enum-told3.given.1) ∙ c.before.before.thermometer.ensures) c.before.before.before.args.t.now
+returns_4 : tie.Need-returns-in-RatioOutside
+returns_4 c = left_by_lem (sym (ap result_of c.enum_told-in-RatioOutside-1.given.1) ∙ c.before.before.thermometer-answer.ensures) c.before.before.before.args.t.now
 
 pub sounder_thermometer_spec : {M : Type 1} → statement M
 sounder_thermometer_spec =
     tie.close
-    (tie.spec
-    thermometer_requires
-    enum_known_answer
-    cast_t
-    enum_told
-    enum_told_2
-    enum_told_3
-    returns
-    returns_2
-    returns_3
-    returns_4)
+    (tie.spec thermometer_requires enum_known_answer cast_t enum_told enum_told_2 enum_told_3 returns returns_2 returns_3 returns_4)

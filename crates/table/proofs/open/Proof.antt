@@ -19,32 +19,26 @@ use Rattle.table.proofs.open.Tie as tie
 abbrev inside : List ℕ → Bool
 inside bytes = values_inside (settings_of ages bytes)
 
-layout_answers : (c : tie.After-layout-is-right)
-    → c.layout-is-right.result ≡ layout_is_right c.before.before.before.before.before.args.bytes.now 0 (table_layout ages)
-layout_answers c = c.layout-is-right.ensures ∙ ap (layout_is_right c.before.before.before.before.before.args.bytes.now 0) lent_layout
+layout_answers : (c : tie.After-layout_is_right)
+    → c.layout_is_right.result ≡ layout_is_right c.before.before.before.before.before.args.bytes.now 0 (table_layout ages)
+layout_answers c = c.layout_is_right.ensures ∙ ap (layout_is_right c.before.before.before.before.before.args.bytes.now 0) lent_layout
 
 refused_requires : tie.Need-refused-requires
 refused_requires c κs = search rules
 
-returns : tie.Need-returns
+returns : tie.Need-returns-then-bytes-ne-TABLE_SIZE
 unfolding opening
 returns c =
     let bytes = c.before.before.before.args.bytes.now in
-    opened_by_lem table_size bytes (opening_length_wrong (table_layout ages) (inside bytes) bytes c.before.if1.true) (ap verdict_of c.refused.ensures.0) c.refused.ensures.1
+    opened_by_lem table_size bytes (opening_length_wrong (table_layout ages) (inside bytes) bytes c.before.if-bytes-ne-TABLE_SIZE.true) (ap verdict_of c.refused.ensures.0) c.refused.ensures.1
 
-slice_aggregate_layout_is_right : tie.Need-slice-aggregate-layout-is-right
-slice_aggregate_layout_is_right c = refl
-
-slice_aggregate_layout_is_right_2 : tie.Need-slice-aggregate-layout-is-right-2
-slice_aggregate_layout_is_right_2 c = refl
-
-layout_is_right_requires : tie.Need-layout-is-right-requires
+layout_is_right_requires : tie.Need-layout_is_right-requires
 layout_is_right_requires c κs = (refl, rw (ap layout_size lent_layout) (omega arith))
 
-refused_requires_2 : tie.Need-refused-requires-2
+refused_requires_2 : tie.Need-refused-requires-then-not-layout_is_right
 refused_requires_2 c κs = search rules
 
-returns_2 : tie.Need-returns-2
+returns_2 : tie.Need-returns-then-not-layout_is_right
 unfolding opening
 returns_2 c =
     let l = c.before.before in
@@ -52,17 +46,17 @@ returns_2 c =
     opened_by_lem
     table_size
     bytes
-    (opening_field_wrong (table_layout ages) (inside bytes) bytes l.before.before.before.if1.false (test_failed (layout_answers l) c.before.if2.true))
-    (ap verdict_of c.refused2.ensures.0)
-    c.refused2.ensures.1
+    (opening_field_wrong (table_layout ages) (inside bytes) bytes l.before.before.before.if-bytes-ne-TABLE_SIZE.false (test_failed (layout_answers l) c.before.if-not-layout_is_right.true-raw))
+    (ap verdict_of c.refused-then-not-layout_is_right.ensures.0)
+    c.refused-then-not-layout_is_right.ensures.1
 
-values_inside_requires : tie.Need-values-inside-requires
+values_inside_requires : tie.Need-values_inside-requires
 values_inside_requires c κs = search rules
 
-refused_requires_3 : tie.Need-refused-requires-3
+refused_requires_3 : tie.Need-refused-requires-then-not-values_inside
 refused_requires_3 c κs = search rules
 
-returns_3 : tie.Need-returns-3
+returns_3 : tie.Need-returns-then-not-values_inside
 unfolding opening
 returns_3 c =
     let v = c.before.before in
@@ -76,26 +70,26 @@ returns_3 c =
     (table_layout ages)
     (inside bytes)
     bytes
-    l.before.before.before.if1.false
-    (test_passed (layout_answers l) second.if2.false)
-    (test_failed v.values-inside.ensures c.before.if3.true))
-    (ap verdict_of c.refused3.ensures.0)
-    c.refused3.ensures.1
+    l.before.before.before.if-bytes-ne-TABLE_SIZE.false
+    (test_passed (layout_answers l) second.if-not-layout_is_right.false-raw)
+    (test_failed v.values_inside.ensures c.before.if-not-values_inside.true-raw))
+    (ap verdict_of c.refused-then-not-values_inside.ensures.0)
+    c.refused-then-not-values_inside.ensures.1
 
-slice_aggregate_copy : tie.Need-slice-aggregate-copy
+slice_aggregate_copy : tie.Need-slice_bounds-copy_from_slice-end
 slice_aggregate_copy c = refl
 
-copy_requires : tie.Need-copy-requires
+copy_requires : tie.Need-copy_from_slice-requires
 copy_requires c κs = search rules
 
-returns_4 : tie.Need-returns-4
+returns_4 : tie.Need-returns
 unfolding opening
 returns_4 c =
     let third = c.before.before.before in
     let v = third.before in
     let second = v.before in
     let l = second.before in
-    let long = l.before.before.before.if1.false in
+    let long = l.before.before.before.if-bytes-ne-TABLE_SIZE.false in
     let bytes = l.before.before.before.before.before.args.bytes.now in
     opened_by_lem
     table_size
@@ -105,25 +99,12 @@ returns_4 c =
     (inside bytes)
     bytes
     long
-    (test_passed (layout_answers l) second.if2.false)
-    (test_passed v.values-inside.ensures third.if3.false))
+    (test_passed (layout_answers l) second.if-not-layout_is_right.false-raw)
+    (test_passed v.values_inside.ensures third.if-not-values_inside.false-raw))
     refl
-    (copied_whole bytes _ _ long c.before.copy2.ensures.1)
+    (copied_whole bytes _ _ long c.before.copy-2-1.ensures.1)
 
 pub open_spec : {M : Type 1} → statement M
 open_spec =
     tie.close
-    (tie.spec
-    refused_requires
-    returns
-    slice_aggregate_layout_is_right
-    slice_aggregate_layout_is_right_2
-    layout_is_right_requires
-    refused_requires_2
-    returns_2
-    values_inside_requires
-    refused_requires_3
-    returns_3
-    slice_aggregate_copy
-    copy_requires
-    returns_4)
+    (tie.spec refused_requires returns layout_is_right_requires refused_requires_2 returns_2 values_inside_requires refused_requires_3 returns_3 slice_aggregate_copy copy_requires returns_4)

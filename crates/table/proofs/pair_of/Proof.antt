@@ -4,32 +4,32 @@ use Rattle.integers.proofs.Machine.{result_reads_back}
 use Rattle.table.proofs.pair_of.Statement.{statement}
 use Rattle.table.proofs.pair_of.Tie as tie
 
-mul_at : tie.Need-overflow-mul-at
+mul_at : tie.Need-overflow_mul-at
 mul_at c = search rules
 
-add_at : tie.Need-overflow-add-at
+add_at : tie.Need-overflow_add-at
 add_at c = search rules
 
-mul_at_2 : tie.Need-overflow-mul-at-2
+mul_at_2 : tie.Need-overflow_mul-at-2
 mul_at_2 c = search rules
 
-add_at_2 : tie.Need-overflow-add-at-2
+add_at_2 : tie.Need-overflow_add-at-2
 add_at_2 c = search rules
 
-i32_at_requires : tie.Need-i32-at-requires
+i32_at_requires : tie.Need-i32_at-requires
 i32_at_requires c κs = search rules
 
-add_i16_at : tie.Need-overflow-add-i16-at
+add_i16_at : tie.Need-overflow_add-at-3
 add_i16_at c = search rules
 
-i16_at_requires : tie.Need-i16-at-requires
+i16_at_requires : tie.Need-i16_at-requires
 i16_at_requires c κs = search rules
 
 returns : tie.Need-returns
 returns c =
-    let shelf = c.before.i32-at in
-    let tnl = c.i16-at in
-    rw (result_reads_back shelf.result shelf.type-inv, result_reads_back tnl.result tnl.type-inv, shelf.ensures, tnl.ensures)
+    let shelf = c.before.i32_at in
+    let tnl = c.i16_at in
+    rw (result_reads_back shelf.result shelf.type_inv, result_reads_back tnl.result tnl.type_inv, shelf.ensures, tnl.ensures)
 
 pub pair_of_spec : {M : Type 1} → statement M
 pair_of_spec =

@@ -18,55 +18,46 @@ use Rattle.table.proofs.pairs_inside.Tie as tie
 abbrev inside : List ℕ → ℕ → ℕ → Bool
 inside table c = pair_inside ((settings_of ages table).channel c).pair
 
-abbrev invariant_loop : tie.invariant_loop
+abbrev invariant_loop : tie.invariant-loop-j
 invariant_loop table c j₀ j = (j ≤ pairs) × (every (inside table c) j ≡ true)
 
-abbrev decreases_loop : tie.decreases_loop
+abbrev decreases_loop : tie.decreases-loop-j
 decreases_loop table c j₀ j = pairs - j
 
-loop_holds : tie.Need-loop-init invariant_loop decreases_loop
+loop_holds : tie.Need-loop-j-init invariant_loop decreases_loop
 loop_holds c = (omega arith, every_none _)
 
-pair_inside_requires : tie.Need-pair-inside-requires invariant_loop decreases_loop
+pair_inside_requires : tie.Need-pair_inside-requires invariant_loop decreases_loop
 pair_inside_requires c κs = search rules
 
-returns : tie.Need-returns invariant_loop decreases_loop
+returns : tie.Need-returns-then-not-pair_inside invariant_loop decreases_loop
 returns c =
     let l = c.before.before.before in
     let a = l.before.before.args in
-    sym (every_ended (inside a.table.now a.c) l.loop.j pairs (sym c.before.pair_inside.ensures ∙ not-true _ c.if1.true) (omega arith))
+    sym (every_ended (inside a.table.now a.c) l.loop-j.j pairs (sym c.before.pair_inside.ensures ∙ not-true _ c.if-not-pair_inside.true-raw) (omega arith))
 
-add_j : tie.Need-overflow-add-j invariant_loop decreases_loop
+add_j : tie.Need-overflow_step-j invariant_loop decreases_loop
 add_j c = search rules
 
-loop_less : tie.Need-loop-smaller invariant_loop decreases_loop
+loop_less : tie.Need-loop-j-smaller invariant_loop decreases_loop
 loop_less c = omega arith
 
-loop_again : tie.Need-loop-preserved invariant_loop decreases_loop
+loop_again : tie.Need-loop-j-preserved invariant_loop decreases_loop
 loop_again c =
     let l = c.before.before.before in
     let a = l.before.before.args in (
       omega arith,
-      every_more (inside a.table.now a.c) l.loop.j l.loop.invariant.1 ∙ sym c.before.pair_inside.ensures ∙ not-false _ c.if1.false,
+      every_more (inside a.table.now a.c) l.loop-j.j l.loop-j.invariant.1 ∙ sym c.before.pair_inside.ensures ∙ not-false _ c.if-not-pair_inside.false-raw,
     )
 
-returns_2 : tie.Need-returns-2 invariant_loop decreases_loop
+returns_2 : tie.Need-returns invariant_loop decreases_loop
 returns_2 c =
     let l = c.before in
     let a = l.before.before.args in
-    let last : pairs ≡ l.loop.j = omega arith in
-    sym (ap (every (inside a.table.now a.c)) last ∙ l.loop.invariant.1)
+    let last : pairs ≡ l.loop-j.j = omega arith in
+    sym (ap (every (inside a.table.now a.c)) last ∙ l.loop-j.invariant.1)
 
 pub pairs_inside_spec : {M : Type 1} → statement M
 pairs_inside_spec =
     tie.close
-    (tie.spec
-    invariant_loop
-    decreases_loop
-    loop_holds
-    pair_inside_requires
-    returns
-    add_j
-    loop_less
-    loop_again
-    returns_2)
+    (tie.spec invariant_loop decreases_loop loop_holds pair_inside_requires returns add_j loop_less loop_again returns_2)

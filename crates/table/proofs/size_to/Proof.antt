@@ -29,22 +29,22 @@ module _ (m : ℕ) (small : m < 2 ^ 32) where
   below_test_is fits t machine =
       rw (reads_back fits, natural_reads_back m (omega arith), +ℤ_idl (neg_ℤ (pos m)), reads_back negated_fits) at machine
 
-cast_m : tie.Need-overflow-cast-m
+cast_m : tie.Need-overflow_cast-m
 cast_m c = search rules
 
-sub_if1 : tie.Need-overflow-sub-if1
+sub_if1 : tie.Need-overflow_sub-m
 sub_if1 c = negation_fits c.args.most (omega arith)
 
-returns : tie.Need-returns
+returns : tie.Need-returns-then-z-m
 returns c =
     let s = c.before in
-    let below : s.args.z <ℤ neg_ℤ (pos s.args.most) = lt_z_true (below_test_is s.args.most (omega arith) s.ranges.z true c.if1.true) in
+    let below : s.args.z <ℤ neg_ℤ (pos s.args.most) = lt_z_true (below_test_is s.args.most (omega arith) s.ranges.z true c.if-z-m.true) in
     rw (below_is_not_above below)
 
-returns_2 : tie.Need-returns-2
+returns_2 : tie.Need-returns
 returns_2 c =
     let s = c.before in
-    let above : neg_ℤ (pos s.args.most) ≤ℤ s.args.z = lt_z_false (below_test_is s.args.most (omega arith) s.ranges.z false c.if1.false) in
+    let above : neg_ℤ (pos s.args.most) ≤ℤ s.args.z = lt_z_false (below_test_is s.args.most (omega arith) s.ranges.z false c.if-z-m.false) in
     rw (reads_back s.ranges.z, natural_reads_back s.args.most (omega arith), at_most_test above)
 
 pub size_to_spec : {M : Type 1} → statement M

@@ -11,19 +11,19 @@ use Rattle.instrument.proofs.Places.{last_at_most}
 use Rattle.table.proofs.sum_p.Statement.{statement}
 use Rattle.table.proofs.sum_p.Tie as tie
 
-first_of_requires : tie.Need-first-of-requires
+first_of_requires : tie.Need-first_of-requires
 first_of_requires c κs = search rules
 
-mul_at : tie.Need-overflow-mul-at
+mul_at : tie.Need-overflow_mul-at
 mul_at c = omega (arith, last_at_most c.before.before.args.target)
 
-add_at : tie.Need-overflow-add-at
+add_at : tie.Need-overflow_add-at
 add_at c = omega (arith, last_at_most c.before.before.args.target)
 
-size_of_requires : tie.Need-size-of-requires
+size_of_requires : tie.Need-size_of-requires
 size_of_requires c κs = search rules
 
-byte_sum_requires : tie.Need-byte-sum-requires
+byte_sum_requires : tie.Need-byte_sum-requires
 byte_sum_requires c κs =
     let last = last_at_most c.before.before.before.args.target in
     (omega arith, omega arith, omega arith)
@@ -31,7 +31,7 @@ byte_sum_requires c κs =
 returns : tie.Need-returns
 returns c =
     let a = c.before.before.before.before.args in
-    c.byte-sum.ensures
+    c.byte_sum.ensures
     ∙ ap (sum _) c.before.type_size.ensures
     ∙ sum_same _ _ (size_of a.target) (λ k below. ap (λ (p : ℕ). get_or a.table.now p 0) (omega arith))
 

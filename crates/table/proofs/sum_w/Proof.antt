@@ -9,13 +9,13 @@ use Rattle.table.specs.Opening.{ages}
 use Rattle.table.proofs.sum_w.Statement.{statement}
 use Rattle.table.proofs.sum_w.Tie as tie
 
-byte_sum_requires : tie.Need-byte-sum-requires
+byte_sum_requires : tie.Need-byte_sum-requires
 byte_sum_requires c κs = search rules
 
 returns : tie.Need-returns
 returns c =
     let table = c.before.before.args.table.now in
-    c.byte-sum.ensures ∙ sum_same _ _ ages (λ k below. ap (λ (p : ℕ). get_or table p 0) (omega arith))
+    c.byte_sum.ensures ∙ sum_same _ _ ages (λ k below. ap (λ (p : ℕ). get_or table p 0) (omega arith))
 
 pub sum_w_spec : {M : Type 1} → statement M
 sum_w_spec = tie.close (tie.spec byte_sum_requires returns)

@@ -5,14 +5,14 @@ use Rattle.table.specs.Ranges.{thermometer_inside}
 use Rattle.table.proofs.thermometer_inside.Statement.{statement}
 use Rattle.table.proofs.thermometer_inside.Tie as tie
 
-thermometer_of_requires : tie.Need-thermometer-of-requires
+thermometer_of_requires : tie.Need-thermometer_of-t-requires
 thermometer_of_requires c κs = search rules
 
-coefficients_inside_requires : tie.Need-coefficients-inside-requires
+coefficients_inside_requires : tie.Need-coefficients_inside-requires
 coefficients_inside_requires c κs = search rules
 
 returns : tie.Need-returns
-returns c = c.coefficients-inside.ensures ∙ ap thermometer_inside c.before.thermometer-of.ensures
+returns c = c.coefficients_inside.ensures ∙ ap thermometer_inside c.before.thermometer_of-t.ensures
 
 pub thermometer_inside_spec : {M : Type 1} → statement M
 thermometer_inside_spec =

@@ -42,31 +42,31 @@ small_at s =
     small s.args.rpam s.args.r0 s.args.pam s.args.offset s.args.count
     p.0 p.1 p.2 p.3 s.ranges.pam.fits s.ranges.count.fits
 
-sub_above : tie.Need-overflow-sub-above
+sub_above : tie.Need-overflow_sub-above
 sub_above c = search rules
 
-cast_above : tie.Need-overflow-cast-above
+cast_above : tie.Need-overflow_cast-above
 cast_above c = search rules
 
-sub_span : tie.Need-overflow-sub-span
+sub_span : tie.Need-overflow_sub-span
 sub_span c = search rules
 
-cast_span : tie.Need-overflow-cast-span
+cast_span : tie.Need-overflow_cast-span
 cast_span c = search rules
 
-mul_result : tie.Need-overflow-mul-result
+mul_result : tie.Need-overflow_mul-result
 mul_result c = omega (arith, small_at c)
 
-mul_result_2 : tie.Need-overflow-mul-result-2
+mul_result_2 : tie.Need-overflow_mul-result-2
 mul_result_2 c = omega (arith, small_at c)
 
-mul_result_3 : tie.Need-overflow-mul-result-3
+mul_result_3 : tie.Need-overflow_mul-result-3
 mul_result_3 c = omega (arith, small_at c)
 
-div_result : tie.Need-nonzero-div-result
+div_result : tie.Need-nonzero_div-result
 div_result c = (small_at c).divisor_above
 
-cast_result : tie.Need-overflow-cast-result
+cast_result : tie.Need-overflow_cast-result-3
 cast_result c = small_fits _ (small_at c).quotient
 
 returns : tie.Need-returns
@@ -77,14 +77,4 @@ returns c =
 pub measured_ratio_spec : {M : Type 1} → statement M
 measured_ratio_spec =
     tie.close
-    (tie.spec
-    sub_above
-    cast_above
-    sub_span
-    cast_span
-    mul_result
-    mul_result_2
-    mul_result_3
-    div_result
-    cast_result
-    returns)
+    (tie.spec sub_above cast_above sub_span cast_span mul_result mul_result_2 mul_result_3 div_result cast_result returns)

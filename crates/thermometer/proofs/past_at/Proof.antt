@@ -16,39 +16,39 @@ use Rattle.thermometer.specs.Steps.{past_at}
 use Rattle.thermometer.proofs.past_at.Statement.{statement}
 use Rattle.thermometer.proofs.past_at.Tie as tie
 
-not_last : (c : tie.Else1) → ltb 491518 c.before.args.near ≡ false
+not_last : (c : tie.Else-near-gt491518) → ltb 491518 c.before.args.near ≡ false
 not_last c = le-ltb 491518 c.before.args.near (omega arith)
 
 abbrev after_F : tie.Start → ℤ
 after_F s = F s.args.alpha s.args.delta s.args.beta (units_at_place (s.args.near + 2))
 
-reads_F : (c : tie.After-ratio-at) → to_z w64 (of_z w64 c.ratio-at.result) ≡ after_F c.before.before
-reads_F c = result_reads_back c.ratio-at.result c.ratio-at.type-inv ∙ c.ratio-at.ensures
+reads_F : (c : tie.After-ratio_at) → to_z w64 (of_z w64 c.ratio_at.result) ≡ after_F c.before.before
+reads_F c = result_reads_back c.ratio_at.result c.ratio_at.type_inv ∙ c.ratio_at.ensures
 
-m_below : (c : tie.Then2) → let s = c.before.before.before in lt_z s.args.m (after_F s) ≡ true
-m_below c = rw (reads_F c.before, reads_back c.before.before.before.ranges.m) at c.if2.true
+m_below : (c : tie.Then-m-ratio_at) → let s = c.before.before.before in lt_z s.args.m (after_F s) ≡ true
+m_below c = rw (reads_F c.before, reads_back c.before.before.before.ranges.m) at c.if-m-ratio_at.true
 
-m_not_below : (c : tie.Else2) → let s = c.before.before.before in lt_z s.args.m (after_F s) ≡ false
-m_not_below c = rw (reads_F c.before, reads_back c.before.before.before.ranges.m) at c.if2.false
+m_not_below : (c : tie.Else-m-ratio_at) → let s = c.before.before.before in lt_z s.args.m (after_F s) ≡ false
+m_not_below c = rw (reads_F c.before, reads_back c.before.before.before.ranges.m) at c.if-m-ratio_at.false
 
-returns : tie.Need-returns
+returns : tie.Need-returns-then-near-gt491518
 unfolding past_at
 returns c = rw (lt-ltb 491518 c.before.args.near (omega arith))
 
-add_ratio_at : tie.Need-overflow-add-ratio-at
+add_ratio_at : tie.Need-overflow_add-near
 add_ratio_at c = search rules
 
-ratio_at_requires : tie.Need-ratio-at-requires
+ratio_at_requires : tie.Need-ratio_at-requires
 ratio_at_requires c κs = search rules
 
-add_result : tie.Need-overflow-add-result
+add_result : tie.Need-overflow_add-result
 add_result c = search rules
 
-returns_2 : tie.Need-returns-2
+returns_2 : tie.Need-returns-then-m-ratio_at
 unfolding past_at
 returns_2 c = rw (not_last c.before.before, m_below c)
 
-returns_3 : tie.Need-returns-3
+returns_3 : tie.Need-returns
 unfolding past_at
 returns_3 c = rw (not_last c.before.before, m_not_below c)
 

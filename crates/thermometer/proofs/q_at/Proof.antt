@@ -14,12 +14,12 @@ module _ (s : tie.Start) where
   reads_t = reads_back s.ranges.t
 
   reads_t_less : to_z w64 (of_z w64 (s.args.t -ℤ pos 409600)) ≡ s.args.t -ℤ pos 409600
-  reads_t_less = reads_back (t_less_fits s.pre)
+  reads_t_less = reads_back (t_less_fits s.requires)
 
-sub_result : tie.Need-overflow-sub-result
+sub_result : tie.Need-overflow_sub-result
 sub_result c = rw (reads_t c) (t_less_fits c.requires)
 
-mul_result : tie.Need-overflow-mul-result
+mul_result : tie.Need-overflow_mul-result
 unfolding q
 mul_result c = rw (reads_t c, reads_t_less c) (q_fits c.requires)
 

@@ -15,23 +15,23 @@ use Rattle.thermometer.proofs.reached_at.Tie as tie
 abbrev near_F : tie.Start → ℤ
 near_F s = F s.args.alpha s.args.delta s.args.beta (units_at_place s.args.near)
 
-reads_F : (c : tie.After-ratio-at) → to_z w64 (of_z w64 c.ratio-at.result) ≡ near_F c.before
-reads_F c = result_reads_back c.ratio-at.result c.ratio-at.type-inv ∙ c.ratio-at.ensures
+reads_F : (c : tie.After-ratio_at) → to_z w64 (of_z w64 c.ratio_at.result) ≡ near_F c.before
+reads_F c = result_reads_back c.ratio_at.result c.ratio_at.type_inv ∙ c.ratio_at.ensures
 
-is_reached : (c : tie.Then1) → let s = c.before.before in le_z (near_F s) s.args.m ≡ true
-is_reached c = rw (reads_F c.before, reads_back c.before.before.ranges.m) at c.if1.true
+is_reached : (c : tie.Then-ratio_at-m) → let s = c.before.before in le_z (near_F s) s.args.m ≡ true
+is_reached c = rw (reads_F c.before, reads_back c.before.before.ranges.m) at c.if-ratio_at-m.true
 
-not_reached : (c : tie.Else1) → let s = c.before.before in le_z (near_F s) s.args.m ≡ false
-not_reached c = rw (reads_F c.before, reads_back c.before.before.ranges.m) at c.if1.false
+not_reached : (c : tie.Else-ratio_at-m) → let s = c.before.before in le_z (near_F s) s.args.m ≡ false
+not_reached c = rw (reads_F c.before, reads_back c.before.before.ranges.m) at c.if-ratio_at-m.false
 
-ratio_at_requires : tie.Need-ratio-at-requires
+ratio_at_requires : tie.Need-ratio_at-requires
 ratio_at_requires c κs = search rules
 
-returns : tie.Need-returns
+returns : tie.Need-returns-then-ratio_at-m
 unfolding reached_at
 returns c = rw (is_reached c)
 
-returns_2 : tie.Need-returns-2
+returns_2 : tie.Need-returns
 unfolding reached_at
 returns_2 c = rw (not_reached c)
 

@@ -4,10 +4,10 @@ use borrow.Author.Tests.{le-leb, lt-leb}
 use Rattle.thermometer.proofs.resistance_inside.Statement.{statement}
 use Rattle.thermometer.proofs.resistance_inside.Tie as tie
 
-returns : tie.Need-returns
+returns : tie.Need-returns-then-r-lt1000
 returns c = rw (lt-leb 1000 c.before.args.r (omega arith))
 
-returns_2 : tie.Need-returns-2
+returns_2 : tie.Need-returns
 returns_2 c = rw (le-leb 1000 c.before.args.r (omega arith))
 
 pub resistance_inside_spec : {M : Type 1} → statement M
