@@ -52,7 +52,7 @@ returns c =
     let same = c.before.before.before.alike_channels.ensures ∙ ap alike_channels back in
     let written = c.before.before.write_product.ensures in (
       written.0 ∙ ap (λ (l : List Channel). delivered_count deliver l s.args.earth.now) same,
-      written.1 ∙ ap (λ (l : List Channel). product_of deliver s.args.number l s.args.earth.now ++ drop product_size s.args.buffer-1.now) same,
+      written.1 ∙ ap (λ (l : List Channel). product_of deliver s.args.number l s.args.earth.now ++ drop product_size s.args.buffer.now) same,
     )
 
 pub compared_product_spec : {M : Type 1} → statement M

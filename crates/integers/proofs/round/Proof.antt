@@ -48,19 +48,19 @@ module _ (c : tie.After-remainder-past) where
   b = start.args.b
 
   low_is : to_z w64 (of_z w64 c.before.floor_div-low.result) ≡ floor a b
-  low_is = result_reads_back c.before.floor_div-low.result c.before.floor_div-low.type_inv ∙ (rw (reads_back start.fits.a, reads_back start.fits.b) at c.before.floor_div-low.ensures)
+  low_is = result_reads_back c.before.floor_div-low.result c.before.floor_div-low.type_inv ∙ (rw (reads_back start.ranges.a, reads_back start.ranges.b) at c.before.floor_div-low.ensures)
 
   past_is : to_z w64 (of_z w64 c.remainder-past.result) ≡ Past a b
-  past_is = result_reads_back c.remainder-past.result c.remainder-past.type_inv ∙ (rw (reads_back start.fits.a, reads_back start.fits.b) at c.remainder-past.ensures)
+  past_is = result_reads_back c.remainder-past.result c.remainder-past.type_inv ∙ (rw (reads_back start.ranges.a, reads_back start.ranges.b) at c.remainder-past.ensures)
 
   short_is : to_z w64 (of_z w64 (to_z w64 (of_z w64 b) -ℤ to_z w64 (of_z w64 c.remainder-past.result))) ≡ b -ℤ Past a b
-  short_is = rw (reads_back start.fits.b, past_is, reads_back (short_fits a start.requires start.fits.b))
+  short_is = rw (reads_back start.ranges.b, past_is, reads_back (short_fits a start.requires start.ranges.b))
 
   next_fits : (b -ℤ Past a b) ≤ℤ Past a b → SFits w64 (to_z w64 (of_z w64 c.before.floor_div-low.result) +ℤ pos 1)
-  next_fits h = rw low_is (one_more_fits a start.requires start.fits.a h)
+  next_fits h = rw low_is (one_more_fits a start.requires start.ranges.a h)
 
   next_is : (b -ℤ Past a b) ≤ℤ Past a b → to_z w64 (of_z w64 (to_z w64 (of_z w64 c.before.floor_div-low.result) +ℤ pos 1)) ≡ floor a b +ℤ pos 1
-  next_is h = rw (low_is, reads_back (one_more_fits a start.requires start.fits.a h))
+  next_is h = rw (low_is, reads_back (one_more_fits a start.requires start.ranges.a h))
 
 floor_div_requires : tie.Need-floor_div-low-requires
 floor_div_requires c κs = search rules

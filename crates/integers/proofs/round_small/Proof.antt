@@ -57,7 +57,7 @@ module _ (s : tie.Start) where
   sum_is = rw (reads_back s.ranges.a, reads_back s.ranges.b, reads_back (twice_a_fits s.requires), reads_back (sum_fits s.requires))
 
   twice_is : to_z w64 (of_z w64 s.args.twice) ≡ pos 2 *ℤ s.args.b
-  twice_is = reads_back s.fits.twice ∙ s.requires.3
+  twice_is = reads_back s.ranges.twice ∙ s.requires.3
 
 mul_sum : tie.Need-overflow_mul-sum
 mul_sum c = rw (reads_back c.ranges.a) (twice_a_fits c.requires)

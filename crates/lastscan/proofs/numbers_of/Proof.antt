@@ -72,7 +72,7 @@ loop_again c =
     let w = c.before in
     let l = w.before.before.before.before in
     let first = l.before in
-    let f = numbers_at first.before.before.args.last.channels-1 in
+    let f = numbers_at first.before.before.args.last.channels in
     let i = l.loop-c.c in (
       omega arith,
       refl,
@@ -87,7 +87,7 @@ unfolding numbers_of
 returns c =
     let l = c.before in
     let first = l.before in
-    let f = numbers_at first.before.before.args.last.channels-1 in
+    let f = numbers_at first.before.before.args.last.channels in
     let last : l.loop-c.c ≡ channels = omega arith in
     l.loop-c.invariant.3
     ∙ ap (λ (n : ℕ). put (first_only first.first_number.result) 1 (cells f n)) last

@@ -18,17 +18,17 @@ use Rattle.live.proofs.feed.Statement.{statement}
 use Rattle.live.proofs.feed.Tie as tie
 
 abbrev feed_of : tie.Start → Feed
-feed_of start = record { scan = start.args.scan.now; buffer = start.args.buffer-1.now }
+feed_of start = record { scan = start.args.scan.now; buffer = start.args.buffer.now }
 
 -- ---- the bytes are a state
 abbrev start_of : tie.Else-not-is_state → tie.Start
 start_of x = x.before.before.before.before.before.before
 
-is_state_lem : (x : tie.Else-not-is_state) → is_state (start_of x).args.state-1.now ≡ true
+is_state_lem : (x : tie.Else-not-is_state) → is_state (start_of x).args.state.now ≡ true
 is_state_lem x = test_passed x.before.is_state_lem.ensures x.if-not-is_state.false-raw
 
-says : (x : tie.Else-not-is_state) → IsStateSays (start_of x).args.state-1.now
-says x = is_state_says (start_of x).args.state-1.now (λ k. (x.before.before.before.before.before.slice_known-1.given k).fits) (is_state_lem x)
+says : (x : tie.Else-not-is_state) → IsStateSays (start_of x).args.state.now
+says x = is_state_says (start_of x).args.state.now (λ k. (x.before.before.before.before.before.slice_known-1.given k).fits) (is_state_lem x)
 
 is_state_requires : tie.Need-is_state-requires
 is_state_requires c κs = search rules
@@ -40,7 +40,7 @@ returns : tie.Need-returns-then-not-is_state
 returns c =
     let test = c.before in
     let start = test.before.before.before.before.before in
-    no_state_leaves start.args.state-1.now (feed_of start) (test_failed test.is_state_lem.ensures c.if-not-is_state.true-raw)
+    no_state_leaves start.args.state.now (feed_of start) (test_failed test.is_state_lem.ensures c.if-not-is_state.true-raw)
 
 table_in_requires : tie.Need-table_in-table-requires
 table_in_requires c κs = (says c.before).long
@@ -92,7 +92,7 @@ returns_2 c =
     let table = bias.before.before in
     let test = table.before.before in
     let start = start_of test in
-    let state = start.args.state-1.now in
+    let state = start.args.state.now in
     let read_back : calibrator_with table.table_in-table.result bias.bias_in-bias.result window.window_in-window.result last.last_in-last.result ≡ calibrator_in state =
     rw (table.table_in-table.ensures, bias.bias_in-bias.ensures, window.window_in-window.ensures, last.last_in-last.ensures) in
     state_leaves state (feed_of start) (is_state_lem test)

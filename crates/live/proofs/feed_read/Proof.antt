@@ -26,7 +26,7 @@ same_length c = search rules
 returns : tie.Need-returns-then-number-ne0
 returns c =
     let f = c.before.before.before.before in
-    refused_leaves f.feed_with-fed.ensures.0 f.before.before.before.before.before.before.before.before.before.args.state-1.now c.before.answer_number-number.ensures c.if-number-ne0.true
+    refused_leaves f.feed_with-fed.ensures.0 f.before.before.before.before.before.before.before.before.before.args.state.now c.before.answer_number-number.ensures c.if-number-ne0.true
 
 save_requires : tie.Need-save-requires
 save_requires c κs = search rules
@@ -41,7 +41,7 @@ returns_2 : tie.Need-returns
 returns_2 c =
     let test = c.before.before.before.before in
     let f = test.before.before.before.before in
-    accepted_leaves f.feed_with-fed.ensures.0 f.before.before.before.before.before.before.before.before.before.args.state-1.now test.before.answer_number-number.ensures test.if-number-ne0.false c.before.before.save.ensures
+    accepted_leaves f.feed_with-fed.ensures.0 f.before.before.before.before.before.before.before.before.before.args.state.now test.before.answer_number-number.ensures test.if-number-ne0.false c.before.before.save.ensures
 
 pub feed_read_spec : {M : Type 1} → statement M
 feed_read_spec =

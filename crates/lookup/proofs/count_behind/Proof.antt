@@ -66,7 +66,7 @@ count_with_requires : tie.Need-count_with-requires
 count_with_requires c κs =
     let e = c.before.before.before.before.before.before in
     let s = e.before.before in
-    (s.requires.kept-1 (not-false s.args.last.any c.before.before.before.before.if-not-last.false) (s.args.channel - 1) (omega (arith, numbered e))).constants c.if-kept-ne0.false
+    (s.requires.kept (not-false s.args.last.any c.before.before.before.before.if-not-last.false) (s.args.channel - 1) (omega (arith, numbered e))).constants c.if-kept-ne0.false
 
 returns_4 : tie.Need-returns
 returns_4 c =

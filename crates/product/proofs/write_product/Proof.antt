@@ -53,7 +53,7 @@ module _ (s : tie.Start) where
   with_summaries = with_scenes ++ head_of 3 ++ summaries_bytes (summaries (deliver s) s.args.states s.args.earth.now)
 
   abbrev AtFront : List ℕ → ℕ → List ℕ → Type 0
-  AtFront = Fronted s.args.buffer-1.now
+  AtFront = Fronted s.args.buffer.now
 
   room : {front whole : List ℕ} {n m : ℕ} → AtFront front n whole → n ≤ product_size → m ≤ product_size → m ≤ length whole
   room {m = m} fronted inside within =
@@ -89,7 +89,7 @@ abbrev start8 : tie.After-write_summaries → tie.Start
 start8 c = start7 c.before.before.before.before
 
 number_head : (c : tie.After-put_head) → AtFront (start1 c) (head_of 0) (value_start product_layout 0) c.put_head.new.0
-number_head c = front_and_put (front_none (start1 c).args.buffer-1.now) (head_of 0) refl c.put_head.ensures
+number_head c = front_and_put (front_none (start1 c).args.buffer.now) (head_of 0) refl c.put_head.ensures
 
 number_value : (c : tie.After-put_u32) → AtFront (start2 c) (with_number (start2 c)) (field_start product_layout 1) c.put_u32.new.0
 number_value c = front_and_put (number_head c.before.before.before.before) (u32_bytes (start2 c).args.number) refl c.put_u32.ensures
@@ -139,7 +139,7 @@ array_read_put_head_2 : tie.Need-bounds-0-2
 array_read_put_head_2 c = lit< tt
 
 put_head_requires : tie.Need-put_head-requires
-put_head_requires c κs = let s = c.before.before.before.before in room s (front_none s.args.buffer-1.now) (lit≤ tt) (lit≤ tt)
+put_head_requires c κs = let s = c.before.before.before.before in room s (front_none s.args.buffer.now) (lit≤ tt) (lit≤ tt)
 
 put_u32_requires : tie.Need-put_u32-requires
 put_u32_requires c κs = let w = c.before.before.before in room (start1 w) (number_head w) (lit≤ tt) (lit≤ tt)

@@ -169,7 +169,7 @@ loop_again c =
       simp length-set l.loop-c.invariant.2,
       filled_by_store (summary_at a.t2 pairs earth) (replicate channels l.before.none-none.result) k t.loop-c-test.true l.loop-c.invariant.3 summary,
       filled_by_put (bytes_at a.t2 pairs earth) stretch_size (λ n. length_channel_scenes _ _ _) a.out-1.now k l.loop-c.invariant.4 bytes
-          (lent_part_is_put l.loop-c.out-1 w.new.0 start (start + stretch_size) (ap (λ (n : ℕ). start + n) (ap length bytes ∙ length_channel_scenes (by_pairs pairs k) channel _))),
+          (lent_part_is_put l.loop-c.out w.new.0 start (start + stretch_size) (ap (λ (n : ℕ). start + n) (ap length bytes ∙ length_channel_scenes (by_pairs pairs k) channel _))),
     )
 
 same_length : tie.Need-shape_of-out invariant_loop decreases_loop

@@ -27,7 +27,7 @@ abbrev decreases_loop : tie.decreases-loop-c
 decreases_loop out₀ all c₀ out c = channels - c
 
 loop_holds : tie.Need-loop-c-init invariant_loop decreases_loop
-loop_holds c = (search rules, search rules, filled_none (bytes_at c.before.args.t2) summary_size c.before.args.out-1.now)
+loop_holds c = (search rules, search rules, filled_none (bytes_at c.before.args.t2) summary_size c.before.args.out.now)
 
 mul_s : tie.Need-offset_bounds-all-c invariant_loop decreases_loop
 mul_s c = omega arith

@@ -31,17 +31,17 @@ module _ (c : tie.After-raised_bend) where
   bend_reads_back : to_z w64 (of_z w64 c.raised_bend.result) ≡ bend_of start.args.x start.args.curve +ℤ pos 1048576
   bend_reads_back =
       result_reads_back c.raised_bend.result c.raised_bend.type_inv
-      ∙ rw (reads_back start.fits.x, reads_back start.fits.curve) at c.raised_bend.ensures
+      ∙ rw (reads_back start.ranges.x, reads_back start.ranges.curve) at c.raised_bend.ensures
 
 add_result_2 : tie.Need-overflow_add-result-2
 add_result_2 c =
     let s = start c in
-    rw (reads_back s.fits.start, reads_back s.fits.linear, reads_back (sum_fits s.requires), bend_reads_back c) (units_fit s.requires)
+    rw (reads_back s.ranges.start, reads_back s.ranges.linear, reads_back (sum_fits s.requires), bend_reads_back c) (units_fit s.requires)
 
 returns : tie.Need-returns
 returns c =
     let s = start c in
-    rw (reads_back s.fits.start, reads_back s.fits.linear, reads_back (sum_fits s.requires), bend_reads_back c, reads_back (units_fit s.requires))
+    rw (reads_back s.ranges.start, reads_back s.ranges.linear, reads_back (sum_fits s.requires), bend_reads_back c, reads_back (units_fit s.requires))
 
 pub units_of_spec : {M : Type 1} → statement M
 units_of_spec = tie.close (tie.spec add_result raised_bend_requires add_result_2 returns)

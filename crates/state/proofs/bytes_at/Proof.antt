@@ -28,8 +28,8 @@ returns c =
     let copy = c.before.before in
     let start = copy.before.before.before.before.before in
     let state = start.args.state.now in
-    let n = length start.args.out-1.now in
-    copied_whole (take n (drop start.args.at state)) start.args.out-1.now _ (length_part state start.args.at n start.requires) (rw (part_is_take state start.args.at n) at copy.copy.ensures.1)
+    let n = length start.args.out.now in
+    copied_whole (take n (drop start.args.at state)) start.args.out.now _ (length_part state start.args.at n start.requires) (rw (part_is_take state start.args.at n) at copy.copy.ensures.1)
 
 pub bytes_at_spec : {M : Type 1} → statement M
 bytes_at_spec =

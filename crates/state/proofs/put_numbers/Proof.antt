@@ -16,7 +16,7 @@ abbrev decreases_loop : tie.decreases-loop-i
 decreases_loop out₀ at numbers i₀ i-end out i = length numbers - i
 
 loop_holds : tie.Need-loop-i-init invariant_loop decreases_loop
-loop_holds c = (omega arith, refl, put_none c.before.before.args.numbers.now c.before.before.args.out-1.now c.before.before.args.at (omega arith))
+loop_holds c = (omega arith, refl, put_none c.before.before.args.numbers.now c.before.before.args.out.now c.before.before.args.at (omega arith))
 
 mul_put_u32 : tie.Need-overflow_mul-i invariant_loop decreases_loop
 mul_put_u32 c = omega arith

@@ -30,7 +30,7 @@ module _ (s : tie.Start) where
   reads_m = reads_back s.ranges.m
 
   reads_t : to_z w64 (of_z w64 s.args.t) ≡ s.args.t
-  reads_t = reads_back s.fits.t
+  reads_t = reads_back s.ranges.t
 
   reads_end : to_z w64 (of_z w64 (s.args.t +ℤ pos 2048)) ≡ s.args.t +ℤ pos 2048
   reads_end = reads_back (t_fits s.requires.3)
