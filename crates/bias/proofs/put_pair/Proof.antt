@@ -46,7 +46,7 @@ returns c =
     let a = first.before.before.before.before.args in
     let c0 = first.raised_of-c0.ensures ∙ ap raised first.before.u16_at.ensures in
     let e = second.raised_of-e.ensures ∙ ap raised second.before.u16_at-2.ensures in
-    two.put_two.ensures ∙ ap₂ (λ (x y : ℕ). put a.out-1.now a.at ((x + 32768) ∷ (65536 * y + 32767) ∷ [])) e c0
+    two.put_two.ensures ∙ ap₂ (λ (x y : ℕ). put a.out.now a.at ((x + 32768) ∷ (65536 * y + 32767) ∷ [])) e c0
 
 pub put_pair_spec : {M : Type 1} → statement M
 put_pair_spec =

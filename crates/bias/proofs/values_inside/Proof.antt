@@ -29,10 +29,10 @@ decreases_loop bytes c₀ c = channels - c
 
 -- the answer is the test of channel c's part
 answer_is_test : (c : tie.After-part_inside invariant_loop decreases_loop)
-    → (let l = c.before.before.before in c.part_inside_lem.result ≡ inside l.before.before.args.bytes.now l.loop-c.c)
+    → (let l = c.before.before.before in c.part_inside.result ≡ inside l.before.before.args.bytes.now l.loop-c.c)
 answer_is_test c =
     let l = c.before.before.before in
-    c.part_inside_lem.ensures ∙ ap part_inside (part_is_take l.before.before.args.bytes.now (part_start l.loop-c.c) part_size)
+    c.part_inside.ensures ∙ ap part_inside (part_is_take l.before.before.args.bytes.now (part_start l.loop-c.c) part_size)
 
 loop_holds : tie.Need-loop-c-init invariant_loop decreases_loop
 loop_holds c = (omega arith, every_none _)

@@ -31,7 +31,7 @@ returns : tie.Need-returns-then-field_is_right
 returns c =
     let a = c.before.before.before.before.args in
     ap (λ (n : ℕ). take n (drop (a.at + head_size) a.bytes.now)) (add-sub_cancel_left (a.at + head_size) a.size)
-    ∙ sym (value_when_right a.bytes.now a.at _ (sym c.before.before.field_is_right_lem.ensures ∙ c.before.if-field_is_right.true))
+    ∙ sym (value_when_right a.bytes.now a.at _ (sym c.before.before.field_is_right.ensures ∙ c.before.if-field_is_right.true))
 
 slice_aggregate_result : tie.Need-slice_bounds-result-end-2
 slice_aggregate_result c = search rules
@@ -39,7 +39,7 @@ slice_aggregate_result c = search rules
 returns_2 : tie.Need-returns
 returns_2 c =
     let a = c.before.before.before.before.args in
-    sym (value_when_wrong a.bytes.now a.at _ (sym c.before.before.field_is_right_lem.ensures ∙ c.before.if-field_is_right.false))
+    sym (value_when_wrong a.bytes.now a.at _ (sym c.before.before.field_is_right.ensures ∙ c.before.if-field_is_right.false))
 
 pub field_spec : {M : Type 1} → statement M
 field_spec =

@@ -18,8 +18,8 @@ signed_of_requires c κs = search rules
 
 returns : tie.Need-returns
 returns c =
-    to_z-of_z w64 _ (record { sfits = c.Signed-of.type_inv })
-    ∙ c.Signed-of.ensures
+    to_z-of_z w64 _ (record { sfits = c.signed_of.type_inv })
+    ∙ c.signed_of.ensures
     ∙ ap (signed 0x8000) c.before.u16_at.ensures
 
 pub i16_at_spec : {M : Type 1} → statement M

@@ -15,8 +15,8 @@ signed_of_requires c κs = search rules
 
 returns : tie.Need-returns
 returns c =
-    to_z-of_z w64 _ (record { sfits = c.Signed-of.type_inv })
-    ∙ c.Signed-of.ensures
+    to_z-of_z w64 _ (record { sfits = c.signed_of.type_inv })
+    ∙ c.signed_of.ensures
     ∙ ap (signed 0x8000_0000) c.before.u32_at.ensures
 
 pub i32_at_spec : {M : Type 1} → statement M

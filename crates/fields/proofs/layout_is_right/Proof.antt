@@ -45,7 +45,7 @@ returns c =
     sym
     (l.loop-k.invariant.2
     ∙ wrong_from a.tags.now a.sizes.now l.loop-k.k (omega arith) (omega arith) a.bytes.now l.loop-k.at
-    (sym c.before.field_is_right_lem.ensures ∙ not-true _ c.if-not-field_is_right.true-raw))
+    (sym c.before.field_is_right.ensures ∙ not-true _ c.if-not-field_is_right.true-raw))
 
 add_at : tie.Need-overflow_add-at invariant_loop decreases_loop
 add_at c =
@@ -81,7 +81,7 @@ loop_again c =
       omega (arith, size_from tags sizes k (omega arith) (omega arith)),
       l.loop-k.invariant.2
           ∙ right_from tags sizes k (omega arith) (omega arith) a.bytes.now l.loop-k.at
-          (sym c.before.field_is_right_lem.ensures ∙ not-false _ c.if-not-field_is_right.false-raw),
+          (sym c.before.field_is_right.ensures ∙ not-false _ c.if-not-field_is_right.false-raw),
     )
 
 returns_2 : tie.Need-returns invariant_loop decreases_loop

@@ -27,7 +27,7 @@ returns : tie.Need-returns
 returns c =
     let w = c.before.before in
     let a = w.before.before.before.args in
-    let b = a.out-1.now in
+    let b = a.out.now in
     w.put_u16.ensures
     ∙ ap (λ (l : List ℕ). put l (a.at + 1) (u16_bytes a.size)) (stores_are_put b a.at a.tag [] (omega arith))
     ∙ put_after_put b (a.tag ∷ []) (u16_bytes a.size) a.at (a.at + 1) (omega arith) (omega arith)

@@ -71,7 +71,7 @@ unfolding channel_by
 returns c =
     let base = c.wide_of-2 in
     let d = c.before.before.before.before.wide_of in
-    let tnl = c.before.before.before.before.before.before.before.Signed-of in
+    let tnl = c.before.before.before.before.before.before.before.signed_of in
     let known = c.before.before.before.before.before.before.before.before.before.before.before.before in
     let part = known.before.args.part.now in
     let small : (k : ℕ) → get_or part k 0 < 4294967296 = λ k. omega (arith, known.shared_slice_known-1.given k) in

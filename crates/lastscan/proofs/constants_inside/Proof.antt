@@ -71,7 +71,7 @@ returns c =
     let tc = rise.before.before in
     let wide = tc.before.before in
     c.all_hold.ensures
-    ∙ rw (base.wide_of.ensures, d.d_inside.ensures, tnl.size_to.ensures, result_reads_back tnl.before.Signed-of.result tnl.before.Signed-of.type_inv, tnl.before.Signed-of.ensures, rise.from_to-2.ensures, tc.from_to.ensures, wide.wide_of-d.ensures)
+    ∙ rw (base.wide_of.ensures, d.d_inside.ensures, tnl.size_to.ensures, result_reads_back tnl.before.signed_of.result tnl.before.signed_of.type_inv, tnl.before.signed_of.ensures, rise.from_to-2.ensures, tc.from_to.ensures, wide.wide_of-d.ensures)
 
 pub constants_inside_spec : {M : Type 1} → statement M
 constants_inside_spec =

@@ -22,7 +22,7 @@ returns c =
     let copied = c.before.before in
     let numbers = copied.before.before.before in
     let a = numbers.before.before.args in
-    copied.copy.ensures ∙ ap (put a.out-1.now a.at) numbers.numbers_of_channel-numbers.ensures
+    copied.copy.ensures ∙ ap (put a.out.now a.at) numbers.numbers_of_channel-numbers.ensures
 
 pub put_channel_spec : {M : Type 1} → statement M
 put_channel_spec =

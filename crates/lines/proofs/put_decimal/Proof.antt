@@ -51,7 +51,7 @@ returns c =
     let a = d.before.before.before.before.args in (
       omega (arith, at_most_ten d),
       w.put_text.ensures.0 ∙ ap (λ (t : List ℕ). a.at + length t) (text_is_decimal d),
-      w.put_text.ensures.1 ∙ ap (λ (t : List ℕ). put a.out-1.now a.at t) (text_is_decimal d),
+      w.put_text.ensures.1 ∙ ap (λ (t : List ℕ). put a.out.now a.at t) (text_is_decimal d),
     )
 
 pub put_decimal_spec : {M : Type 1} → statement M

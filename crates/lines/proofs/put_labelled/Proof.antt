@@ -25,7 +25,7 @@ returns c =
     let w = c.before.before in
     let t = w.before.before.before.before in
     let a = t.before.before.before.before.args in
-    let out = a.out-1.now in
+    let out = a.out.now in
     let label = a.label.now in
     let digits = decimal a.n in (
       omega arith,

@@ -18,7 +18,7 @@ abbrev start_of : tie.Else-not-is_state → tie.Start
 start_of x = x.before.before.before
 
 is_state_lem : (x : tie.Else-not-is_state) → is_state (start_of x).args.state.now ≡ true
-is_state_lem x = test_passed x.before.is_state_lem.ensures x.if-not-is_state.false-raw
+is_state_lem x = test_passed x.before.is_state.ensures x.if-not-is_state.false-raw
 
 says : (x : tie.Else-not-is_state) → IsStateSays (start_of x).args.state.now
 says x = is_state_says (start_of x).args.state.now (λ k. (x.before.before.shared_slice_known-1.given k).fits) (is_state_lem x)
@@ -40,7 +40,7 @@ returns : tie.Need-returns-then-not-is_state
 returns c =
     let test = c.before in
     let a = test.before.before.args in
-    found_leaves (sym (no_state_found a.state.now a.channel a.wanted (test_failed test.is_state_lem.ensures c.if-not-is_state.true-raw))) a.count.now
+    found_leaves (sym (no_state_found a.state.now a.channel a.wanted (test_failed test.is_state.ensures c.if-not-is_state.true-raw))) a.count.now
 
 last_in_requires : tie.Need-last_in-last-requires
 last_in_requires c κs = ((says c).long, (says c).inside)

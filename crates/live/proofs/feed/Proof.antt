@@ -25,7 +25,7 @@ abbrev start_of : tie.Else-not-is_state → tie.Start
 start_of x = x.before.before.before.before.before.before
 
 is_state_lem : (x : tie.Else-not-is_state) → is_state (start_of x).args.state.now ≡ true
-is_state_lem x = test_passed x.before.is_state_lem.ensures x.if-not-is_state.false-raw
+is_state_lem x = test_passed x.before.is_state.ensures x.if-not-is_state.false-raw
 
 says : (x : tie.Else-not-is_state) → IsStateSays (start_of x).args.state.now
 says x = is_state_says (start_of x).args.state.now (λ k. (x.before.before.before.before.before.slice_known-1.given k).fits) (is_state_lem x)
@@ -40,7 +40,7 @@ returns : tie.Need-returns-then-not-is_state
 returns c =
     let test = c.before in
     let start = test.before.before.before.before.before in
-    no_state_leaves start.args.state.now (feed_of start) (test_failed test.is_state_lem.ensures c.if-not-is_state.true-raw)
+    no_state_leaves start.args.state.now (feed_of start) (test_failed test.is_state.ensures c.if-not-is_state.true-raw)
 
 table_in_requires : tie.Need-table_in-table-requires
 table_in_requires c κs = (says c.before).long

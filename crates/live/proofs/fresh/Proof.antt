@@ -47,7 +47,7 @@ returns c =
     let opened = number.before in
     let a = opened.before.before.before.before.args in
     let is = both_by_table a.table.now a.bias.now (number_is opened.«open».result.answer opened.«open».ensures.0 number.refusal_number-number.ensures) c.if-number-ne0.true in
-    let leaves = refused_by_opening a.table.now a.bias.now a.state-1.now is c.if-number-ne0.true in
+    let leaves = refused_by_opening a.table.now a.bias.now a.state.now is c.if-number-ne0.true in
     (leaves.answer_is, leaves.state_is)
 
 open_requires_2 : tie.Need-open-second-requires
@@ -63,7 +63,7 @@ returns_2 c =
     let first = opened.before in
     let a = (start_of first).args in
     let is = both_by_bias a.table.now a.bias.now (table_passed first) (number_is opened.open-second.result.answer opened.open-second.ensures.0 number.refusal_number-after.ensures) in
-    let leaves = refused_by_opening a.table.now a.bias.now a.state-1.now is c.if-after-ne0.true in
+    let leaves = refused_by_opening a.table.now a.bias.now a.state.now is c.if-after-ne0.true in
     (leaves.answer_is, leaves.state_is)
 
 returns_3 : tie.Need-returns-then-state-lt-STATE_SIZE
@@ -71,7 +71,7 @@ returns_3 c =
     let second = c.before in
     let first = second.before.before.before in
     let a = (start_of first).args in
-    let leaves = no_room a.table.now a.bias.now a.state-1.now (both_pass _ _ (table_passed first) (bias_passed second)) c.if-state-lt-STATE_SIZE.true in
+    let leaves = no_room a.table.now a.bias.now a.state.now (both_pass _ _ (table_passed first) (bias_passed second)) c.if-state-lt-STATE_SIZE.true in
     (leaves.answer_is, leaves.state_is)
 
 empty_requires : tie.Need-empty-requires
@@ -105,8 +105,8 @@ returns_4 c =
     let first = second.before.before.before in
     let a = (start_of first).args in
     let leaves =
-    fresh_saved a.table.now a.bias.now a.state-1.now (both_pass _ _ (table_passed first) (bias_passed second)) room.if-state-lt-STATE_SIZE.false
-    (c.before.before.save.ensures ∙ ap₂ (λ (w : Window) (l : LastScan). saved a.state-1.now (calibrator_with a.table.now a.bias.now w l)) made.empty.ensures kept.nothing_kept.ensures) in
+    fresh_saved a.table.now a.bias.now a.state.now (both_pass _ _ (table_passed first) (bias_passed second)) room.if-state-lt-STATE_SIZE.false
+    (c.before.before.save.ensures ∙ ap₂ (λ (w : Window) (l : LastScan). saved a.state.now (calibrator_with a.table.now a.bias.now w l)) made.empty.ensures kept.nothing_kept.ensures) in
     (leaves.answer_is, leaves.state_is)
 
 pub fresh_spec : {M : Type 1} → statement M

@@ -55,7 +55,7 @@ loop_holds c =
       search rules,
       search rules,
       c.none-summary.ensures ∙ sym (summary_to_none (scenes_in a.channel a.pairs.now a.part.now)),
-      filled_none (bytes_at a.channel a.pairs.now a.part.now) 4 a.out-1.now,
+      filled_none (bytes_at a.channel a.pairs.now a.part.now) 4 a.out.now,
     )
 
 mul_factor : tie.Need-overflow_mul-factor invariant_loop decreases_loop
@@ -139,7 +139,7 @@ loop_again c =
           ∙ ap (with_scene l.loop-i.summary) (scene_is s)
           ∙ ap (λ (s : Summary). with_scene s (scenes i)) l.loop-i.invariant.2
           ∙ sym (summary_to_more scenes i),
-      filled_by_put bytes 4 (λ _. refl) a.out-1.now i l.loop-i.invariant.3 (ap u32_bytes in-bits) w.put_u32.ensures,
+      filled_by_put bytes 4 (λ _. refl) a.out.now i l.loop-i.invariant.3 (ap u32_bytes in-bits) w.put_u32.ensures,
     )
 
 same_length : tie.Need-shape_of-out invariant_loop decreases_loop
@@ -155,7 +155,7 @@ returns c =
     let bytes = bytes_at a.channel a.pairs.now a.part.now in
     let last : l.loop-i.i ≡ positions = omega arith in (
       l.loop-i.invariant.2 ∙ ap (summary_to scenes) last,
-      filled_to_end bytes 4 positions a.out-1.now last s.requires.0.0 l.loop-i.invariant.3,
+      filled_to_end bytes 4 positions a.out.now last s.requires.0.0 l.loop-i.invariant.3,
     )
 
 pub write_channel_spec : {M : Type 1} → statement M

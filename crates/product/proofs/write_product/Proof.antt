@@ -238,7 +238,7 @@ returns c =
           ∙ ap (λ (s : List Summary). sum (λ k. (get_or s k none_delivered).count) channels) same
           ∙ counts_of_summaries (deliver (start8 w)) a.states earth,
       (summaries_value w).same
-          ∙ ap (λ (l : List ℕ). l ++ drop product_size a.buffer-1.now)
+          ∙ ap (λ (l : List ℕ). l ++ drop product_size a.buffer.now)
           (regroup (head_of 0) (u32_bytes a.number) (head_of 1) (flag_bytes a.states) (head_of 2) (scene_bytes (deliver (start8 w)) a.states earth) (head_of 3) _),
     )
 

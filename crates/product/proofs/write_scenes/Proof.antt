@@ -63,7 +63,7 @@ loop_holds c =
       s.requires.0.0,
       refl,
       tabulated_none (summary_at a.t2 a.pairs.now a.earth.now) (replicate channels c.none-none.result),
-      filled_none (bytes_at a.t2 a.pairs.now a.earth.now) stretch_size a.out-1.now,
+      filled_none (bytes_at a.t2 a.pairs.now a.earth.now) stretch_size a.out.now,
     )
 
 mul_channel : tie.Need-offset_bounds-states-c invariant_loop decreases_loop
@@ -168,7 +168,7 @@ loop_again c =
       c.before.out-1.given.1 ∙ l.loop-c.invariant.1,
       simp length-set l.loop-c.invariant.2,
       filled_by_store (summary_at a.t2 pairs earth) (replicate channels l.before.none-none.result) k t.loop-c-test.true l.loop-c.invariant.3 summary,
-      filled_by_put (bytes_at a.t2 pairs earth) stretch_size (λ n. length_channel_scenes _ _ _) a.out-1.now k l.loop-c.invariant.4 bytes
+      filled_by_put (bytes_at a.t2 pairs earth) stretch_size (λ n. length_channel_scenes _ _ _) a.out.now k l.loop-c.invariant.4 bytes
           (lent_part_is_put l.loop-c.out w.new.0 start (start + stretch_size) (ap (λ (n : ℕ). start + n) (ap length bytes ∙ length_channel_scenes (by_pairs pairs k) channel _))),
     )
 
@@ -185,7 +185,7 @@ returns c =
     let earth = a.earth.now in
     let last : l.loop-c.c ≡ channels = omega arith in (
       tabulated_to_end (summary_at a.t2 pairs earth) channels (replicate channels l.before.none-none.result) last (le_refl channels) l.loop-c.invariant.3,
-      filled_to_end (bytes_at a.t2 pairs earth) stretch_size channels a.out-1.now last s.requires.0.0 l.loop-c.invariant.4,
+      filled_to_end (bytes_at a.t2 pairs earth) stretch_size channels a.out.now last s.requires.0.0 l.loop-c.invariant.4,
     )
 
 pub write_scenes_spec : {M : Type 1} → statement M

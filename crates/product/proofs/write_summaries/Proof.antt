@@ -60,7 +60,7 @@ loop_again c =
     let k = l.loop-c.c in (
       omega arith,
       w.auto.0 ∙ l.loop-c.invariant.1,
-      filled_by_put (bytes_at a.t2) summary_size (λ i. length_summary_bytes _) a.out-1.now k
+      filled_by_put (bytes_at a.t2) summary_size (λ i. length_summary_bytes _) a.out.now k
           l.loop-c.invariant.2 (ap summary_bytes (summary_of a.t2 k (search rules))) w.ensures,
     )
 
@@ -72,7 +72,7 @@ unfolding summaries_bytes
 returns c =
     let l = c.before in
     let a = l.before.before.args in
-    filled_to_end (bytes_at a.t2) summary_size channels a.out-1.now (omega arith) l.before.before.requires.0 l.loop-c.invariant.2
+    filled_to_end (bytes_at a.t2) summary_size channels a.out.now (omega arith) l.before.before.requires.0 l.loop-c.invariant.2
 
 pub write_summaries_spec : {M : Type 1} → statement M
 write_summaries_spec =

@@ -12,11 +12,11 @@ value_of_requires : tie.Need-value_of-requires
 value_of_requires c κs = search rules
 
 float_to_bits_result : tie.Need-float_to_bits-result
-float_to_bits_result c = subst (λ x. T (not (is_nan x))) (sym c.value_of_lem.ensures) c.before.requires
+float_to_bits_result c = subst (λ x. T (not (is_nan x))) (sym c.value_of.ensures) c.before.requires
 
 returns : tie.Need-returns
 unfolding bits
-returns c = ap (to_bits binary32) c.value_of_lem.ensures
+returns c = ap (to_bits binary32) c.value_of.ensures
 
 pub bits_of_spec : {M : Type 1} → statement M
 bits_of_spec = tie.close (tie.spec value_of_requires float_to_bits_result returns)

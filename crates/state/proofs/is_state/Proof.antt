@@ -31,7 +31,7 @@ returns_2 : tie.Need-returns-then-not-front_is_right
 returns_2 c =
     let front = c.before in
     let state = front.before.before.before.args.state.now in
-    sym (wrong_front_is_no_state state (test_failed front.front_is_right_lem.ensures c.if-not-front_is_right.true-raw))
+    sym (wrong_front_is_no_state state (test_failed front.front_is_right.ensures c.if-not-front_is_right.true-raw))
 
 add_open : tie.Need-overflow_add-open
 add_open c = search rules
@@ -99,7 +99,7 @@ returns_5 c =
     let front = second.before in
     let also = passed_at_zero opened.open-second.result.answer opened.open-second.ensures.0 number.refusal_number-2.ensures fourth.if-refusal_number-ne0-2.false in
     c.values_inside.ensures
-    ∙ sym (state_by_values (start_of third).args.state.now front.before.if-state-lt-STATE_SIZE.false (test_passed front.front_is_right_lem.ensures second.if-not-front_is_right.false-raw) (both_pass _ _ (table_passed third) also))
+    ∙ sym (state_by_values (start_of third).args.state.now front.before.if-state-lt-STATE_SIZE.false (test_passed front.front_is_right.ensures second.if-not-front_is_right.false-raw) (both_pass _ _ (table_passed third) also))
 
 pub is_state_spec : {M : Type 1} → statement M
 is_state_spec =

@@ -37,7 +37,7 @@ returns c =
     let w = c.before.before in
     let h = w.before.before.before.before in
     let a = h.before.before.before.before.args in
-    value_copied a.out-1.now h.put_head.new.0 a.value.now a.at _ (omega arith) h.put_head.ensures _ w.copy.ensures.1
+    value_copied a.out.now h.put_head.new.0 a.value.now a.at _ (omega arith) h.put_head.ensures _ w.copy.ensures.1
 
 pub put_field_spec : {M : Type 1} → statement M
 put_field_spec =

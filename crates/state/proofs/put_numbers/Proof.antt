@@ -50,7 +50,7 @@ loop_again c =
       w.put_u32.auto.0 ∙ l.loop-i.invariant.1,
       w.put_u32.ensures
           ∙ ap (λ (b : List ℕ). put b (a.at + 4 * i) (bytes_of numbers i)) l.loop-i.invariant.2
-          ∙ put_next numbers a.out-1.now a.at i (omega arith),
+          ∙ put_next numbers a.out.now a.at i (omega arith),
     )
 
 same_length : tie.Need-shape_of-out invariant_loop decreases_loop
@@ -60,7 +60,7 @@ returns : tie.Need-returns invariant_loop decreases_loop
 returns c =
     let l = c.before in
     let a = l.before.before.before.args in
-    l.loop-i.invariant.2 ∙ put_all a.numbers.now a.out-1.now a.at l.loop-i.i (omega arith)
+    l.loop-i.invariant.2 ∙ put_all a.numbers.now a.out.now a.at l.loop-i.i (omega arith)
 
 pub put_numbers_spec : {M : Type 1} → statement M
 put_numbers_spec =

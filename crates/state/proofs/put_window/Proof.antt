@@ -71,8 +71,8 @@ returns c =
     let bytes = last.before.before.before in
     let start = bytes.before.before.before.before.before in
     let a = start.args in
-    window_put (window_of start) (record { warm = start.requires.1; cold = start.requires.2; kelvin = start.requires.3 }) a.out-1.now start.requires.0
-    (last.put_field.ensures ∙ ap (λ (l : List ℕ). put a.out-1.now window_start (field_bytes (field 0x32 (length l)) l)) bytes.last_bytes-bytes.ensures)
+    window_put (window_of start) (record { warm = start.requires.1; cold = start.requires.2; kelvin = start.requires.3 }) a.out.now start.requires.0
+    (last.put_field.ensures ∙ ap (λ (l : List ℕ). put a.out.now window_start (field_bytes (field 0x32 (length l)) l)) bytes.last_bytes-bytes.ensures)
     warm.put_number_field.ensures
     cold.put_number_field-2.ensures
     kelvin.put_number_field-3.ensures

@@ -108,12 +108,12 @@ returns c =
     let front = window.before.before.before in
     let start = front.before.before.before.before in
     let a = start.args in
-    state_put (calibrator_with a.table.now a.bias.now a.window a.last) (shaped window) (accepted_length start.requires.1) (accepted_bias_length start.requires.2) a.state-1.now start.requires.0
-    (f.put_field.ensures ∙ ap (λ (l : List ℕ). put a.state-1.now 0 (field_bytes (field 0x30 (length l)) l)) front.front_Bytes.ensures)
+    state_put (calibrator_with a.table.now a.bias.now a.window a.last) (shaped window) (accepted_length start.requires.1) (accepted_bias_length start.requires.2) a.state.now start.requires.0
+    (f.put_field.ensures ∙ ap (λ (l : List ℕ). put a.state.now 0 (field_bytes (field 0x30 (length l)) l)) front.front_Bytes.ensures)
     t.put_field-2.ensures
     w.put_window.ensures
     b.put_field-3.ensures
-    (kept.put_number_field.ensures ∙ ap (λ (l : List ℕ). put b.put_field-3.new.0 (field_start state_layout 7) (field_bytes (field 0x37 (4 * length l)) (number_bytes l))) numbers.Numbers-of.ensures)
+    (kept.put_number_field.ensures ∙ ap (λ (l : List ℕ). put b.put_field-3.new.0 (field_start state_layout 7) (field_bytes (field 0x37 (4 * length l)) (number_bytes l))) numbers.numbers_of-numbers.ensures)
 
 pub save_spec : {M : Type 1} → statement M
 save_spec =

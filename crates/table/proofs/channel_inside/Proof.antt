@@ -35,7 +35,7 @@ returns c =
     let k = first.before.before.before.before in
     let values = k.corrections_of-k.result in
     c.all_hold.ensures
-    ∙ rw (first.size_to.ensures, result_reads_back values.b first.before.struct_told-1.given.0.1, second.size_to-2.ensures, result_reads_back values.tnl second.before.struct_told-2-1.given.1.1.1.0.1, k.corrections_of-k.ensures, k.before.limits_of-cold.ensures, k.before.before.Limits-of.ensures)
+    ∙ rw (first.size_to.ensures, result_reads_back values.b first.before.struct_told-1.given.0.1, second.size_to-2.ensures, result_reads_back values.tnl second.before.struct_told-2-1.given.1.1.1.0.1, k.corrections_of-k.ensures, k.before.limits_of-cold.ensures, k.before.before.limits_of-warm.ensures)
 
 pub channel_inside_spec : {M : Type 1} → statement M
 channel_inside_spec =
