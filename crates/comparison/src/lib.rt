@@ -24,48 +24,42 @@ use scene::{Channel, Constants};
 // How many values a scan keeps of both sides.
 const SIDES: usize = 2 * CHANNELS;
 
-#[unsafe(no_mangle)]
-pub extern "C" fn compared_floor_div(a: i64, b: i64) -> i64
+pub fn compared_floor_div(a: i64, b: i64) -> i64
     requires { pos 0 <ℤ b }
     ensures { result ≡ floor a b }
 {
     integers::floor_div(a, b)
 }
 
-#[unsafe(no_mangle)]
-pub extern "C" fn compared_round(a: i64, b: i64) -> i64
+pub fn compared_round(a: i64, b: i64) -> i64
     requires { pos 0 <ℤ b }
     ensures { result ≡ r a b }
 {
     integers::round(a, b)
 }
 
-#[unsafe(no_mangle)]
-pub extern "C" fn compared_u16(bytes: &[u8], at: usize) -> u16
+pub fn compared_u16(bytes: &[u8], at: usize) -> u16
     requires { at + 1 < length bytes.now }
     ensures { result ≡ u16_at bytes.now at }
 {
     fields::u16_at(bytes, at)
 }
 
-#[unsafe(no_mangle)]
-pub extern "C" fn compared_u32(bytes: &[u8], at: usize) -> u32
+pub fn compared_u32(bytes: &[u8], at: usize) -> u32
     requires { at + 3 < length bytes.now }
     ensures { result ≡ u32_at bytes.now at }
 {
     fields::u32_at(bytes, at)
 }
 
-#[unsafe(no_mangle)]
-pub extern "C" fn compared_i16(bytes: &[u8], at: usize) -> i64
+pub fn compared_i16(bytes: &[u8], at: usize) -> i64
     requires { at + 1 < length bytes.now }
     ensures { result ≡ i16_at bytes.now at }
 {
     fields::i16_at(bytes, at)
 }
 
-#[unsafe(no_mangle)]
-pub extern "C" fn compared_i32(bytes: &[u8], at: usize) -> i64
+pub fn compared_i32(bytes: &[u8], at: usize) -> i64
     requires { at + 3 < length bytes.now }
     ensures { result ≡ i32_at bytes.now at }
 {
@@ -73,16 +67,14 @@ pub extern "C" fn compared_i32(bytes: &[u8], at: usize) -> i64
 }
 
 // How long the part is that the field reader hands back.
-#[unsafe(no_mangle)]
-pub extern "C" fn compared_field(bytes: &[u8], at: usize, tag: u8, size: u16) -> usize
+pub fn compared_field(bytes: &[u8], at: usize, tag: u8, size: u16) -> usize
     requires { at + head_size + size ≤ length bytes.now }
     ensures { result ≡ length (field_value bytes.now at (record { tag = tag; size = size })) }
 {
     fields::field(bytes, at, tag, size).len()
 }
 
-#[unsafe(no_mangle)]
-pub extern "C" fn compared_layout(bytes: &[u8], tags: &[u8], sizes: &[u16]) -> bool
+pub fn compared_layout(bytes: &[u8], tags: &[u8], sizes: &[u16]) -> bool
     requires { (length tags.now ≡ length sizes.now) × (layout_size (layout_of tags.now sizes.now) ≤ length bytes.now) }
     ensures { result ≡ layout_is_right bytes.now 0 (layout_of tags.now sizes.now) }
 {
@@ -90,8 +82,7 @@ pub extern "C" fn compared_layout(bytes: &[u8], tags: &[u8], sizes: &[u16]) -> b
 }
 
 // Value k of what a scan keeps: the warm sides, the cold, the thermometers.
-#[unsafe(no_mangle)]
-pub extern "C" fn compared_kept(table: &[u8], scan: &[u8], k: usize) -> u32
+pub fn compared_kept(table: &[u8], scan: &[u8], k: usize) -> u32
     requires { (length table.now ≡ table_size) × RightRecord scan.now × (k < 2 * channels + thermometers) }
     ensures { result ≡ kept_at (kept_scan (accepted_samples (settings_of ages table.now) scan.now)) k }
 {
@@ -117,8 +108,7 @@ fn alike_channels(constants: Constants) -> [Channel; CHANNELS]
 
 // A whole product, of channels with flag 0 that all have these constants, under a scan bias: the writer alone, to be timed. `pairs` has
 // two numbers for every position, channel by channel: 65,536 + e and 65,536 (c0 + 32,768) + 32,767.
-#[unsafe(no_mangle)]
-pub extern "C" fn compared_product(
+pub fn compared_product(
     buffer: &mut [u8],
     number: u32,
     tc: i64,

@@ -15,8 +15,7 @@ use calibrator::Calibrator;
 use thermometer::Reading;
 
 // Document 01, "Opening a table": 0, or 1 to 3.
-#[unsafe(no_mangle)]
-pub extern "C" fn sounder_open(table: &[u8]) -> u8
+pub fn sounder_open(table: &[u8]) -> u8
     ensures { result ≡ number_of (opening table.now) }
 {
     let opened = table::open(table);
@@ -25,8 +24,7 @@ pub extern "C" fn sounder_open(table: &[u8]) -> u8
 }
 
 // Request W1: opening a bias file: 0, or 1 to 3.
-#[unsafe(no_mangle)]
-pub extern "C" fn sounder_open_bias(bias: &[u8]) -> u8
+pub fn sounder_open_bias(bias: &[u8]) -> u8
     ensures { result ≡ number_of (bias_opening bias.now) }
 {
     let opened = bias::open(bias);
@@ -35,8 +33,7 @@ pub extern "C" fn sounder_open_bias(bias: &[u8]) -> u8
 }
 
 // Document 01, "One thermometer": 0 and t in units of °C, or 8 to 10 and t as it was.
-#[unsafe(no_mangle)]
-pub extern "C" fn sounder_thermometer(
+pub fn sounder_thermometer(
     r_pam: u32,
     r0: u32,
     alpha: u32,
@@ -62,8 +59,7 @@ pub extern "C" fn sounder_thermometer(
 }
 
 // Opens the table and the bias file and, where both are accepted, feeds a fresh calibrator the list: 0, or the number of the first refusal.
-#[unsafe(no_mangle)]
-pub extern "C" fn sounder_feed_all(
+pub fn sounder_feed_all(
     table: &[u8],
     bias: &[u8],
     records: &[u8],
@@ -100,24 +96,21 @@ pub extern "C" fn sounder_feed_all(
 // ---- scan by scan: the calibrator is a state in the caller's memory
 
 // How many bytes a state has.
-#[unsafe(no_mangle)]
-pub extern "C" fn sounder_state_size() -> usize
+pub fn sounder_state_size() -> usize
     ensures { result ≡ state_size }
 {
     state::STATE_SIZE
 }
 
 // Writes the state of a fresh calibrator under this table and this bias file: 0, 1 to 3, or 254 where the state is too short.
-#[unsafe(no_mangle)]
-pub extern "C" fn sounder_fresh(table: &[u8], bias: &[u8], state: &mut [u8]) -> u8
+pub fn sounder_fresh(table: &[u8], bias: &[u8], state: &mut [u8]) -> u8
     ensures { (result ≡ number_of (fresh_verdict table.now bias.now state.old)) × (state.new ≡ fresh_by (fresh_verdict table.now bias.now state.old) table.now bias.now state.old) }
 {
     live::fresh(table, bias, state)
 }
 
 // Feeds a scan to the calibrator of a state: 0, 254 where the bytes are no state, or 4 to 7.
-#[unsafe(no_mangle)]
-pub extern "C" fn sounder_feed(state: &mut [u8], scan: &[u8], buffer: &mut [u8]) -> u8
+pub fn sounder_feed(state: &mut [u8], scan: &[u8], buffer: &mut [u8]) -> u8
     ensures { CallLeaves (fed_state state.old (record { scan = scan.entry.now; buffer = buffer.old })) result state.new buffer.new }
 {
     live::feed(state, scan, buffer)
@@ -125,21 +118,14 @@ pub extern "C" fn sounder_feed(state: &mut [u8], scan: &[u8], buffer: &mut [u8])
 
 // Request W5, the count behind a temperature, by the calibrator of a state: 0 and the count; or 254 where the bytes are no state, 11, 12, or 253
 // where no count fits, and the count as it was.
-#[unsafe(no_mangle)]
-pub extern "C" fn sounder_count_behind(
-    state: &[u8],
-    channel: u32,
-    wanted: u32,
-    count: &mut u16,
-) -> u8
+pub fn sounder_count_behind(state: &[u8], channel: u32, wanted: u32, count: &mut u16) -> u8
     ensures { (result ≡ found_number (found_in state.now channel wanted)) × (count.new ≡ count_or (found_in state.now channel wanted) count.old) }
 {
     live::count_behind(state, channel, wanted, count)
 }
 
 // 10,000 times the major, 100 times the minor and once the patch number of the version.
-#[unsafe(no_mangle)]
-pub extern "C" fn sounder_version() -> u32
+pub fn sounder_version() -> u32
     ensures { result ≡ library_version }
 {
     60_100

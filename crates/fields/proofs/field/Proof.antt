@@ -38,8 +38,8 @@ slice_aggregate_result c = search rules
 
 returns_2 : tie.Need-returns
 returns_2 c =
-    let a = c.before.before.before.before.args in
-    sym (value_when_wrong a.bytes.now a.at _ (sym c.before.before.field_is_right.ensures ∙ c.before.if-field_is_right.false))
+    let a = c.before.before.before.args in
+    sym (value_when_wrong a.bytes.now a.at _ (sym c.before.field_is_right.ensures ∙ c.if-field_is_right.false))
 
 pub field_spec : {M : Type 1} → statement M
 field_spec =

@@ -21,7 +21,7 @@ put_u16_requires : tie.Need-put_u16-requires
 put_u16_requires c κs = simp length-set (omega arith)
 
 same_length : tie.Need-shape_of-out
-same_length c = c.before.before.put_u16.auto.0 ∙ simp length-set
+same_length c = c.before.before.put_u16.auto.out ∙ simp length-set
 
 returns : tie.Need-returns
 returns c =

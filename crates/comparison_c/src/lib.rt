@@ -1,0 +1,116 @@
+// The C functions for compare/: each is the function of `comparison` of this name, with its contract. This crate is built as a static library, on
+// which no other crate can stand.
+
+#![tactic(auto)]
+
+ghost use Rattle.std.specs.Prelude.{◌≡◌, ◌++◌, ℕ, ◌+◌, ◌*◌, ◌<◌, ◌≤◌, pos, length, drop, ◌<ℤ◌};
+ghost use Rattle.integers.specs.Rounding.{floor, r};
+ghost use Rattle.fields.specs.Numbers.{u16_at, u32_at, i16_at, i32_at};
+ghost use Rattle.fields.specs.Fields.{head_size, field_value, layout_of, layout_size, layout_is_right};
+ghost use Rattle.instrument.specs.Instrument.{channels, thermometers};
+ghost use Rattle.table.specs.Settings.{settings_of};
+ghost use Rattle.table.specs.Opening.{ages, table_size};
+ghost use Rattle.record.specs.Record.{RightRecord, earth_size};
+ghost use Rattle.acceptance.specs.Accepted.{accepted_samples};
+ghost use Rattle.acceptance.specs.Kept.{kept_scan};
+ghost use Rattle.scene.specs.Ranges.{ConstantsRange};
+ghost use Rattle.product.specs.Steps.{by_pairs, pairs_size, pairs_part, PairsRange};
+ghost use Rattle.product.specs.Product.{product_size, product_of, delivered_count};
+ghost use Rattle.comparison.specs.KeptValues.{kept_at};
+ghost use Rattle.comparison.specs.AlikeChannels.{alike_channels};
+
+#[unsafe(no_mangle)]
+pub extern "C" fn compared_floor_div(a: i64, b: i64) -> i64
+    requires { pos 0 <ℤ b }
+    ensures { result ≡ floor a b }
+{
+    comparison::compared_floor_div(a, b)
+}
+
+#[unsafe(no_mangle)]
+pub extern "C" fn compared_round(a: i64, b: i64) -> i64
+    requires { pos 0 <ℤ b }
+    ensures { result ≡ r a b }
+{
+    comparison::compared_round(a, b)
+}
+
+#[unsafe(no_mangle)]
+pub extern "C" fn compared_u16(bytes: &[u8], at: usize) -> u16
+    requires { at + 1 < length bytes.now }
+    ensures { result ≡ u16_at bytes.now at }
+{
+    comparison::compared_u16(bytes, at)
+}
+
+#[unsafe(no_mangle)]
+pub extern "C" fn compared_u32(bytes: &[u8], at: usize) -> u32
+    requires { at + 3 < length bytes.now }
+    ensures { result ≡ u32_at bytes.now at }
+{
+    comparison::compared_u32(bytes, at)
+}
+
+#[unsafe(no_mangle)]
+pub extern "C" fn compared_i16(bytes: &[u8], at: usize) -> i64
+    requires { at + 1 < length bytes.now }
+    ensures { result ≡ i16_at bytes.now at }
+{
+    comparison::compared_i16(bytes, at)
+}
+
+#[unsafe(no_mangle)]
+pub extern "C" fn compared_i32(bytes: &[u8], at: usize) -> i64
+    requires { at + 3 < length bytes.now }
+    ensures { result ≡ i32_at bytes.now at }
+{
+    comparison::compared_i32(bytes, at)
+}
+
+// How long the part is that the field reader hands back.
+#[unsafe(no_mangle)]
+pub extern "C" fn compared_field(bytes: &[u8], at: usize, tag: u8, size: u16) -> usize
+    requires { at + head_size + size ≤ length bytes.now }
+    ensures { result ≡ length (field_value bytes.now at (record { tag = tag; size = size })) }
+{
+    comparison::compared_field(bytes, at, tag, size)
+}
+
+#[unsafe(no_mangle)]
+pub extern "C" fn compared_layout(bytes: &[u8], tags: &[u8], sizes: &[u16]) -> bool
+    requires { (length tags.now ≡ length sizes.now) × (layout_size (layout_of tags.now sizes.now) ≤ length bytes.now) }
+    ensures { result ≡ layout_is_right bytes.now 0 (layout_of tags.now sizes.now) }
+{
+    comparison::compared_layout(bytes, tags, sizes)
+}
+
+// Value k of what a scan keeps: the warm sides, the cold, the thermometers.
+#[unsafe(no_mangle)]
+pub extern "C" fn compared_kept(table: &[u8], scan: &[u8], k: usize) -> u32
+    requires { (length table.now ≡ table_size) × RightRecord scan.now × (k < 2 * channels + thermometers) }
+    ensures { result ≡ kept_at (kept_scan (accepted_samples (settings_of ages table.now) scan.now)) k }
+{
+    comparison::compared_kept(table, scan, k)
+}
+
+// A whole product, of channels with flag 0 that all have these constants, under a scan bias: the writer alone, to be timed. `pairs` has
+// two numbers for every position, channel by channel: 65,536 + e and 65,536 (c0 + 32,768) + 32,767.
+#[unsafe(no_mangle)]
+pub extern "C" fn compared_product(
+    buffer: &mut [u8],
+    number: u32,
+    tc: i64,
+    rise: i64,
+    tnl: i64,
+    d: i64,
+    slope: i64,
+    base: i64,
+    pairs: &[u32],
+    earth: &[u8],
+) -> u32
+    requires product_size_in_bounds { (product_size ≤ length buffer.old) × (length earth.now ≡ earth_size * channels) × ConstantsRange (record { tc = tc; rise = rise; tnl = tnl; d = d; slope = slope; base = base }) }
+    requires pairs_len { (length pairs.now ≡ pairs_size * channels) × ((k : ℕ) → k < channels → PairsRange (pairs_part pairs.now k)) }
+    ensures { (result ≡ delivered_count (by_pairs pairs.now) (alike_channels (record { tc = tc; rise = rise; tnl = tnl; d = d; slope = slope; base = base })) earth.now) × (buffer.new ≡ product_of (by_pairs pairs.now) number (alike_channels (record { tc = tc; rise = rise; tnl = tnl; d = d; slope = slope; base = base })) earth.now ++ drop product_size buffer.old) }
+{
+    comparison::compared_product(buffer, number, tc, rise, tnl, d, slope, base, pairs, earth)
+}
