@@ -22,13 +22,13 @@ feed_of start = record { scan = start.args.scan.now; buffer = start.args.buffer.
 
 -- ---- the bytes are a state
 abbrev start_of : tie.Else-not-is_state → tie.Start
-start_of x = x.before.before.before.before.before.before
+start_of x = x.before.before.before.before.before
 
 is_state_lem : (x : tie.Else-not-is_state) → is_state (start_of x).args.state.now ≡ true
 is_state_lem x = test_passed x.before.is_state.ensures x.if-not-is_state.false-raw
 
 says : (x : tie.Else-not-is_state) → IsStateSays (start_of x).args.state.now
-says x = is_state_says (start_of x).args.state.now (λ k. (x.before.before.before.before.before.slice_known-1.given k).fits) (is_state_lem x)
+says x = is_state_says (start_of x).args.state.now (λ k. (x.slice_known-1.given k).fits) (is_state_lem x)
 
 is_state_requires : tie.Need-is_state-requires
 is_state_requires c κs = search rules
@@ -39,21 +39,21 @@ same_length c = search rules
 returns : tie.Need-returns-then-not-is_state
 returns c =
     let test = c.before in
-    let start = test.before.before.before.before.before in
+    let start = test.before.before.before.before in
     no_state_leaves start.args.state.now (feed_of start) (test_failed test.is_state.ensures c.if-not-is_state.true-raw)
 
 table_in_requires : tie.Need-table_in-table-requires
-table_in_requires c κs = (says c.before).long
+table_in_requires c κs = (says c).long
 
 bias_in_requires : tie.Need-bias_in-bias-requires
-bias_in_requires c κs = (says c.before.before.before).long
+bias_in_requires c κs = (says c.before).long
 
 window_in_requires : tie.Need-window_in-window-requires
-window_in_requires c κs = (says c.before.before.before.before.before).long
+window_in_requires c κs = (says c.before.before).long
 
 last_in_requires : tie.Need-last_in-last-requires
 last_in_requires c κs =
-    let state = says c.before.before.before.before.before.before.before in
+    let state = says c.before.before.before in
     (state.long, state.inside)
 
 slice_aggregate_feed_read : tie.Need-slice_bounds-feed_read-end
@@ -64,16 +64,12 @@ slice_aggregate_feed_read_2 c = search rules
 
 feed_read_requires : tie.Need-feed_read-requires
 feed_read_requires c κs =
-    let last = c.before.before.before.before in
-    let window = last.before.before in
-    let bias = window.before.before in
-    let table = bias.before.before in
-    let state = says table.before.before in
+    let state = says c.before.before.before.before.before.before.before.before in
     let sound = state.sound in (
-      subst AcceptedTable (sym table.table_in-table.ensures) sound.table-1,
-      subst AcceptedBias (sym bias.bias_in-bias.ensures) sound.bias-1,
-      subst WindowRange (sym window.window_in-window.ensures) sound.window,
-      subst LastRange (sym last.last_in-last.ensures) sound.last,
+      subst AcceptedTable (sym c.table_in-table.ensures) sound.table,
+      subst AcceptedBias (sym c.bias_in-bias.ensures) sound.bias,
+      subst WindowRange (sym c.window_in-window.ensures) sound.window,
+      subst LastRange (sym c.last_in-last.ensures) sound.last,
       state.long,
     )
 
@@ -85,18 +81,14 @@ same_length_3 c = search rules
 
 returns_2 : tie.Need-returns
 returns_2 c =
-    let fed = c.before.before.before.before in
-    let last = fed.before.before.before.before.before in
-    let window = last.before.before in
-    let bias = window.before.before in
-    let table = bias.before.before in
-    let test = table.before.before in
+    let fed = c.feed_read in
+    let test : tie.Else-not-is_state = c.before.before.before.before.before.before.before.before.before.before.before.before.before in
     let start = start_of test in
     let state = start.args.state.now in
-    let read_back : calibrator_with table.table_in-table.result bias.bias_in-bias.result window.window_in-window.result last.last_in-last.result ≡ calibrator_in state =
-    rw (table.table_in-table.ensures, bias.bias_in-bias.ensures, window.window_in-window.ensures, last.last_in-last.ensures) in
+    let read_back : calibrator_with c.table_in-table.result c.bias_in-bias.result c.window_in-window.result c.last_in-last.result ≡ calibrator_in state =
+    rw (c.table_in-table.ensures, c.bias_in-bias.ensures, c.window_in-window.ensures, c.last_in-last.ensures) in
     state_leaves state (feed_of start) (is_state_lem test)
-    (subst (λ (d : Calibrator). CallLeaves (left_by state (step d (feed_of start))) fed.feed_read.result fed.feed_read.new.1.1.1.1.0 fed.feed_read.new.1.1.1.1.1.1.0) read_back fed.feed_read.ensures)
+    (subst (λ (d : Calibrator). CallLeaves (left_by state (step d (feed_of start))) fed.result fed.new.state fed.new.buffer) read_back fed.ensures)
 
 pub feed_spec : {M : Type 1} → statement M
 feed_spec =
