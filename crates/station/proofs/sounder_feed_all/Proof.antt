@@ -26,10 +26,10 @@ module _ (table bias : List ℕ) (lent : Lent) (answers : List ℕ) where
       (n ≡ number_of verdict) × (answered ≡ answers_by verdict table bias lent answers)
       × (written ≡ buffers_by verdict table bias lent (length answers))
 
-  refused_writes_nothing : {n : ℕ} → n ≡ number_of (both_opening table bias) → (n ≡ 0 → ⊥) → LeftBy (both_opening table bias) n answers lent.buffers-1
+  refused_writes_nothing : {n : ℕ} → n ≡ number_of (both_opening table bias) → (n ≡ 0 → ⊥) → LeftBy (both_opening table bias) n answers lent.buffers
   refused_writes_nothing = by_verdict (both_opening table bias)
     where
-      by_verdict : (verdict : Verdict) → {n : ℕ} → n ≡ number_of verdict → (n ≡ 0 → ⊥) → LeftBy verdict n answers lent.buffers-1
+      by_verdict : (verdict : Verdict) → {n : ℕ} → n ≡ number_of verdict → (n ≡ 0 → ⊥) → LeftBy verdict n answers lent.buffers
       by_verdict passes is some = absurd (some is)
       by_verdict (fails k) is some = (is, refl, refl)
 
@@ -48,7 +48,7 @@ table_passed : (x : tie.Else-number-ne0) → opening (start_of x).args.table.now
 table_passed x =
     let number = x.before in
     let opened = number.before in
-    passed_at_zero opened.«open».result.answer opened.«open».ensures.0 number.refusal_number-number.ensures x.if-number-ne0.false
+    passed_at_zero opened.open-opened.result.answer opened.open-opened.ensures.0 number.refusal_number-number.ensures x.if-number-ne0.false
 
 bias_passed : (x : tie.Else-after-ne0) → bias_opening (start_of x.before.before.before).args.bias.now ≡ passes
 bias_passed x =
@@ -66,7 +66,7 @@ returns : tie.Need-returns-then-number-ne0
 returns c =
     let number = c.before in
     let opened = number.before in
-    let is = number_is opened.«open».result.answer opened.«open».ensures.0 number.refusal_number-number.ensures in
+    let is = number_is opened.open-opened.result.answer opened.open-opened.ensures.0 number.refusal_number-number.ensures in
     refused_writes_nothing _ _ _ _ (both_by_table _ _ is c.if-number-ne0.true) c.if-number-ne0.true
 
 open_requires_2 : tie.Need-open-opened_bias-requires
@@ -95,7 +95,7 @@ fresh_requires c κs =
     let biasOpened = second.before.before in
     let first = biasOpened.before in
     let opened = first.before.before in (
-      handed_table_accepted _ c.before.table.ensures opened.«open».ensures.1 (table_passed first),
+      handed_table_accepted _ c.before.table.ensures opened.open-opened.ensures.1 (table_passed first),
       handed_bias_accepted _ c.bias.ensures biasOpened.open-opened_bias.ensures.1 (bias_passed second) biasOpened.open-opened_bias.ensures.2,
     )
 
@@ -122,7 +122,7 @@ returns_3 c =
     let also = bias_passed second in
     passed_is_fed _ _ _ _ (both_pass _ _ passed also)
     (made.fresh.ensures.0
-    ∙ ap₂ fresh_of (handed_table _ table.table.ensures opened.«open».ensures.1 passed) (handed_bias _ bias.bias.ensures biasOpened.open-opened_bias.ensures.1 also))
+    ∙ ap₂ fresh_of (handed_table _ table.table.ensures opened.open-opened.ensures.1 passed) (handed_bias _ bias.bias.ensures biasOpened.open-opened_bias.ensures.1 also))
     fed.feed_list.ensures.0
     fed.feed_list.ensures.1
 
