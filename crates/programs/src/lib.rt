@@ -1,8 +1,8 @@
 // What the programs `listing` and `calibrate` do: both read table.bin, then bias.bin, then records from standard input, feed each record
 // and write what the crate `lines` makes of it. Stated are what is made of bytes that were read, which calibrator each turn gets, and which
-// bytes may go to the one call of `write` and for which stream. Open is what calls of C do, and runs test it: which bytes `read_record` and
-// `read_file` got and how many, that `write_to` is called once for each record and in order, that its bytes are written, and that a failed
-// call is answered as one.
+// bytes may go to `write_to`, which alone writes, and for which stream. Open is what std's streams and files do, and runs test it: which bytes
+// `read_record` and `read_file` got and how many, that `write_to` is called once for each record and in order, that its bytes are written to
+// that stream, and that a failed call is answered as one.
 
 #![tactic(auto)]
 
@@ -158,7 +158,7 @@ fn output_took(program: Program, line: bool, product: bool) -> bool
     }
 }
 
-// The one call of `write`, with bytes and a stream that are stated. Open: that it writes them there, and answers whether it did.
+// All that is written, with bytes and a stream that are stated. Open: that it writes them there, and answers whether it did.
 fn write_to(rt: &HostRuntime, program: Program, to: i32, bytes: &[u8]) -> bool
     requires { Due program to bytes.now }
 {
@@ -188,7 +188,7 @@ fn say_stop(rt: &HostRuntime, program: Program, stop: Stop) {
 
 // ---- turns
 
-// Reads until the record is full, the input ends or a read fails, which `io::read_full` does not tell apart. Nothing is read behind an end:
+// Reads until the record is full, the input ends or a read fails, which `read_full` does not tell apart. Nothing is read behind an end:
 // a named pipe may get another writer. Open: which bytes were read.
 fn read_record(rt: &HostRuntime, scan: &mut [u8; RECORD_SIZE]) -> Got
     ensures prefix_len { IsPrefixLen result.size scan.new }
