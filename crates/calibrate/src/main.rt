@@ -5,6 +5,6 @@
 
 use programs::Program;
 
-fn main() {
-    programs::run(Program::Calibrate);
+fn main(rt: HostRuntime) {
+    programs::run(&rt, Program::Calibrate);
 }

@@ -24,7 +24,7 @@ const FLAGS_END: usize = FLAGS_AT + CHANNELS;
 pub const LONGEST: usize = 44 + CHANNELS;
 
 // Why a program ends before its input does.
-#[derive(Drop)]
+#[derive(Clone, Copy)]
 pub enum Stop {
     InputUnread,
     OutputUnwritten,

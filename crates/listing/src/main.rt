@@ -4,6 +4,6 @@
 
 use programs::Program;
 
-fn main() {
-    programs::run(Program::Listing);
+fn main(rt: HostRuntime) {
+    programs::run(&rt, Program::Listing);
 }

@@ -4,10 +4,7 @@ use native.Mathlib.Nat.{le_refl}
 use native.Mathlib.Omega.{arith}
 use mathlib.Core.Path.{◌≡◌, refl, sym, ap, ◌∙◌}
 use mathlib.Core.Bool.{Bool}
-use mathlib.Core.Logic.{⊎_elim}
 use mathlib.Core.List.{List, [], ◌∷◌, ◌++◌, append-nil}
-use types.Run.{OneOf}
-use denote.Enum.Declared.{tag_of}
 use lib.ListN.{length, take, drop, length-replicate, drop_of_length-le}
 use lib.Seq.{take_all}
 use Rattle.lists.specs.Build.{put}
@@ -18,7 +15,6 @@ use Rattle.product.specs.Product.{product_size, product_of}
 use Rattle.product.proofs.Bytes.{length_product}
 use Rattle.table.specs.declared.Opening.{Opening}
 use Rattle.table.specs.declared.Opening.TheVariants.{Accepted, LengthWrong, FieldWrong, ValueOutside}
-use Rattle.table.specs.contracts.Opening.{the_type}
 use Rattle.calibrator.specs.declared.Calibrator.{Calibrator}
 use Rattle.calibrator.specs.Refusals.{verdict}
 use Rattle.calibrator.specs.Feeding.{Feed, Outcome, delivery, next_channels, verdict_in, step_by, step, Sound}
@@ -111,9 +107,9 @@ module _ (c : Calibrator) (next : Next) (complete : Bool) where
   turn_with_bytes [] some = absurd (omega (arith, some))
   turn_with_bytes (byte ∷ more) some = refl
 
--- ---- an opening that is no acceptance, by the number of its variant
-pub refuses_by_variant : (answer : Opening) → OneOf (1 ∷ 2 ∷ 3 ∷ []) (tag_of the_type answer) → Refuses answer
-refuses_by_variant Accepted variant = absurd (⊎_elim (λ one. omega (arith, one)) (⊎_elim (λ two. omega (arith, two)) (λ three. omega (arith, three))) variant)
-refuses_by_variant LengthWrong variant = record { number = 1; fails_with = refl }
-refuses_by_variant FieldWrong variant = record { number = 2; fails_with = refl }
-refuses_by_variant ValueOutside variant = record { number = 3; fails_with = refl }
+-- ---- an opening that is no acceptance is a refusal
+pub refuses_unless_accepted : (answer : Opening) → (answer ≡ Accepted → ⊥) → Refuses answer
+refuses_unless_accepted Accepted refused = absurd (refused refl)
+refuses_unless_accepted LengthWrong refused = record { number = 1; fails_with = refl }
+refuses_unless_accepted FieldWrong refused = record { number = 2; fails_with = refl }
+refuses_unless_accepted ValueOutside refused = record { number = 3; fails_with = refl }

@@ -19,11 +19,17 @@ ghost use Rattle.programs.specs.Runs.{ReadTo, TurnOf, TurnIn, Ran, Unfed, UnderB
 
 use bias::BIAS_SIZE;
 use calibrator::Calibrator;
-use libc::{STDERR_FILENO, STDIN_FILENO, STDOUT_FILENO};
 use lines::{LONGEST, Stop};
 use product::PRODUCT_SIZE;
 use record::RECORD_SIZE;
+use std::fs::File;
+use std::io::Read;
 use table::{Opening, TABLE_SIZE, Table};
+
+// The numbers of the streams that are written to.
+const STDOUT_FILENO: i32 = 1;
+
+const STDERR_FILENO: i32 = 2;
 
 #[derive(Clone, Copy)]
 pub enum Program {
@@ -34,7 +40,7 @@ pub enum Program {
 }
 
 // Whether there may be another record.
-#[derive(Drop)]
+#[derive(Clone, Copy)]
 enum Next {
     More,
     Ended,
@@ -153,54 +159,62 @@ fn output_took(program: Program, line: bool, product: bool) -> bool
 }
 
 // The one call of `write`, with bytes and a stream that are stated. Open: that it writes them there, and answers whether it did.
-fn write_to(program: Program, to: i32, bytes: &[u8]) -> bool
+fn write_to(rt: &HostRuntime, program: Program, to: i32, bytes: &[u8]) -> bool
     requires { Due program to bytes.now }
 {
-    io::write_all(to, bytes)
+    let written = if to == STDOUT_FILENO {
+        rt.stdout().write_all(bytes)
+    } else {
+        rt.stderr().write_all(bytes)
+    };
+    written.is_ok()
 }
 
 // Writes a line, then a product, and answers whether standard output took all. For an empty one `write_all` makes no call.
-fn hand_over(program: Program, line: &[u8], product: &[u8]) -> bool
+fn hand_over(rt: &HostRuntime, program: Program, line: &[u8], product: &[u8]) -> bool
     requires { Together program line.now product.now }
 {
-    let line_taken = write_to(program, lines_to(program), line);
-    let product_taken = write_to(program, STDOUT_FILENO, product);
+    let line_taken = write_to(rt, program, lines_to(program), line);
+    let product_taken = write_to(rt, program, STDOUT_FILENO, product);
     output_took(program, line_taken, product_taken)
 }
 
 // Says why the program ends early, as far as standard error can be written.
-fn say_stop(program: Program, stop: Stop) {
+fn say_stop(rt: &HostRuntime, program: Program, stop: Stop) {
     let mut line = [0u8; LONGEST];
     let size = lines::stop_line(stop, &mut line);
-    write_to(program, STDERR_FILENO, &line[..size]);
+    write_to(rt, program, STDERR_FILENO, &line[..size]);
 }
 
 // ---- turns
 
 // Reads until the record is full, the input ends or a read fails, which `io::read_full` does not tell apart. Nothing is read behind an end:
 // a named pipe may get another writer. Open: which bytes were read.
-fn read_record(scan: &mut [u8; RECORD_SIZE]) -> Got
+fn read_record(rt: &HostRuntime, scan: &mut [u8; RECORD_SIZE]) -> Got
     ensures prefix_len { IsPrefixLen result.size scan.new }
     ensures read_to { ReadTo result.size result.next }
 {
+    let mut input = rt.stdin();
     let whole: &mut [u8] = scan;
     let mut size = 0;
     while size < whole.len() {
-        let answer = libc::read(STDIN_FILENO, &mut whole[size..]);
-        if answer < 0 {
-            return Got {
-                size,
-                next: Next::Stopped(Stop::InputUnread),
-            };
+        match input.read(&mut whole[size..]) {
+            Err(_) => {
+                return Got {
+                    size,
+                    next: Next::Stopped(Stop::InputUnread),
+                };
+            }
+            Ok(more) => {
+                if more == 0 {
+                    return Got {
+                        size,
+                        next: Next::Ended,
+                    };
+                }
+                size += more;
+            }
         }
-        let more = io::count(answer, &whole[size..]);
-        if more == 0 {
-            return Got {
-                size,
-                next: Next::Ended,
-            };
-        }
-        size += more;
     }
     Got {
         size,
@@ -209,7 +223,13 @@ fn read_record(scan: &mut [u8; RECORD_SIZE]) -> Got
 }
 
 // Deals with what was read. What came before an end or a failed read is a short record, which is refused.
-fn step(program: Program, calibrator: Calibrator, scan: &[u8], next: Next) -> Turned
+fn step(
+    rt: &HostRuntime,
+    program: Program,
+    calibrator: Calibrator,
+    scan: &[u8],
+    next: Next,
+) -> Turned
     requires { Sound calibrator }
     ensures { TurnOf calibrator scan.now next result × Sound result.calibrator }
 {
@@ -222,7 +242,7 @@ fn step(program: Program, calibrator: Calibrator, scan: &[u8], next: Next) -> Tu
     let handed_back = made.calibrator;
     let line_size = made.line;
     let product_size = made.product;
-    let complete = hand_over(program, &line[..line_size], &product[..product_size]);
+    let complete = hand_over(rt, program, &line[..line_size], &product[..product_size]);
     Turned {
         next: next_after(next, complete),
         calibrator: handed_back,
@@ -230,19 +250,24 @@ fn step(program: Program, calibrator: Calibrator, scan: &[u8], next: Next) -> Tu
 }
 
 // Reads a record into the buffer and deals with it.
-fn turn(program: Program, calibrator: Calibrator, scan: &mut [u8; RECORD_SIZE]) -> Turned
+fn turn(
+    rt: &HostRuntime,
+    program: Program,
+    calibrator: Calibrator,
+    scan: &mut [u8; RECORD_SIZE],
+) -> Turned
     requires { Sound calibrator }
     ensures { TurnIn calibrator scan.new result × Sound result.calibrator }
 {
-    let got = read_record(scan);
+    let got = read_record(rt, scan);
     let size = got.size;
     let next = got.next;
     let whole: &[u8] = scan;
-    step(program, calibrator, &whole[..size], next)
+    step(rt, program, calibrator, &whole[..size], next)
 }
 
 // A proved loop has to end: it counts its turns down from a number that no stream of records uses up.
-fn each_record(program: Program, calibrator: Calibrator) -> Turned
+fn each_record(rt: &HostRuntime, program: Program, calibrator: Calibrator) -> Turned
     requires { Sound calibrator }
     ensures { Ran calibrator result }
 {
@@ -250,7 +275,7 @@ fn each_record(program: Program, calibrator: Calibrator) -> Turned
     let mut state = calibrator;
     let mut turns = u64::MAX;
     while turns > 0 {
-        let t = turn(program, state, &mut scan);
+        let t = turn(rt, program, state, &mut scan);
         let next = t.next;
         match next {
             Next::More => {
@@ -270,45 +295,61 @@ fn each_record(program: Program, calibrator: Calibrator) -> Turned
 // ---- the files
 
 // The line of a refused table or bias file. Where standard error does not take that line, it takes no other.
-fn refuse(program: Program, answer: Opening) -> Next
+fn refuse(rt: &HostRuntime, program: Program, answer: Opening) -> Next
     requires { Refuses answer }
     ensures { Unfed result }
 {
     let mut line = [0u8; LONGEST];
     let size = lines::opening_line(answer, &mut line);
-    let complete = hand_over(program, &line[..size], b"");
+    let complete = hand_over(rt, program, &line[..size], b"");
     next_after(Next::Ended, complete)
+}
+
+// Reads until `bytes` is full, the file ends or a read fails, and answers how many bytes were read.
+fn read_full(file: &mut File, bytes: &mut [u8]) -> usize
+    ensures { IsPrefixLen result bytes.new }
+{
+    let mut size = 0;
+    while size < bytes.len() {
+        match file.read(&mut bytes[size..]) {
+            Err(_) => return size,
+            Ok(more) => {
+                if more == 0 {
+                    return size;
+                }
+                size += more;
+            }
+        }
+    }
+    size
 }
 
 // Reads a file of the working directory, as far as `bytes` has room, and answers how many bytes were read: none where it cannot be opened
 // or read. Room for one byte more than an accepted file has tells a longer one. Open: which bytes were read.
-fn read_file(name: &[u8], bytes: &mut [u8]) -> usize
+fn read_file(rt: &HostRuntime, name: &str, bytes: &mut [u8]) -> usize
     ensures { IsPrefixLen result bytes.new }
 {
-    let file = os::open_read(name);
-    if file < 0 {
-        return 0;
+    match File::open(rt, name) {
+        Err(_) => 0,
+        Ok(mut file) => read_full(&mut file, bytes),
     }
-    let n = io::read_full(file, bytes);
-    libc::close(file);
-    n
 }
 
 // A refused bias file gives its line alone, and no record is read.
-fn with_bias(program: Program, table: Table, bytes: &[u8]) -> Next
+fn with_bias(rt: &HostRuntime, program: Program, table: Table, bytes: &[u8]) -> Next
     requires { AcceptedTable table.bytes }
     ensures { UnderBias (bias_opening bytes.now) table bytes.now result }
 {
     let opened = bias::open(bytes);
     let answer = opened.answer;
     match answer {
-        Opening::Accepted => each_record(program, Calibrator::fresh(table, opened.bias())).next,
-        _ => refuse(program, answer),
+        Opening::Accepted => each_record(rt, program, Calibrator::fresh(table, opened.bias())).next,
+        _ => refuse(rt, program, answer),
     }
 }
 
 // A refused table gives its line alone, and bias.bin is not even opened: it may be a named pipe that nobody writes to.
-fn with_table(program: Program, bytes: &[u8]) -> Next
+fn with_table(rt: &HostRuntime, program: Program, bytes: &[u8]) -> Next
     ensures { UnderTable (opening bytes.now) bytes.now result }
 {
     let opened = table::open(bytes);
@@ -316,25 +357,25 @@ fn with_table(program: Program, bytes: &[u8]) -> Next
     match answer {
         Opening::Accepted => {
             let mut pairs = [0u8; BIAS_SIZE + 1];
-            let n = read_file(b"bias.bin", &mut pairs);
-            with_bias(program, opened.table(), &pairs[..n])
+            let n = read_file(rt, "bias.bin", &mut pairs);
+            with_bias(rt, program, opened.table(), &pairs[..n])
         }
-        _ => refuse(program, answer),
+        _ => refuse(rt, program, answer),
     }
 }
 
-fn with_files(program: Program) -> Next
+fn with_files(rt: &HostRuntime, program: Program) -> Next
     ensures { UnderFiles result }
 {
     let mut bytes = [0u8; TABLE_SIZE + 1];
-    let n = read_file(b"table.bin", &mut bytes);
-    with_table(program, &bytes[..n])
+    let n = read_file(rt, "table.bin", &mut bytes);
+    with_table(rt, program, &bytes[..n])
 }
 
-pub fn run(program: Program) {
-    let next = with_files(program);
+pub fn run(rt: &HostRuntime, program: Program) {
+    let next = with_files(rt, program);
     match next {
-        Next::Stopped(stop) => say_stop(program, stop),
+        Next::Stopped(stop) => say_stop(rt, program, stop),
         _ => {}
     }
 }

@@ -29,9 +29,9 @@ use Rattle.scene.specs.Scene.{kelvin, value, bits, units_of, numerator, scene_of
 abbrev unit : Float
 unit = fin false 1 (negsuc 11)
 
-pub in_float : (t : ℕ) → t ≤ 16777215 → T (in_float binary32 (pos t))
+pub in_float_lem : (t : ℕ) → t ≤ 16777215 → T (in_float binary32 (pos t))
 unfolding in_float
-in_float t h = le→leb t (2 ^ 24) (omega arith)
+in_float_lem t h = le→leb t (2 ^ 24) (omega arith)
 
 module _ (t : ℕ) (low : 1 ≤ t) (high : t ≤ 16777215) where
   below_2^24 : t < 2 ^ 24

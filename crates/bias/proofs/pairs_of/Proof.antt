@@ -51,7 +51,7 @@ loop_again c =
     let l = w.before.before.before in
     let bytes = l.before.before.args.bytes.now in (
       omega arith,
-      w.put_pair.auto.0 ∙ l.loop-k.invariant.1,
+      w.put_pair.auto.out ∙ l.loop-k.invariant.1,
       filled_by_put (numbers_at bytes) 2 (λ _. refl) (replicate (2 * pair_count) 0) l.loop-k.k l.loop-k.invariant.2 refl w.put_pair.ensures,
     )
 

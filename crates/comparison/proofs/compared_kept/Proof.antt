@@ -11,13 +11,13 @@ use borrow.Author.Rules.{rules}
 use Rattle.comparison.proofs.compared_kept.Statement.{statement}
 use Rattle.comparison.proofs.compared_kept.Tie as tie
 
-warm_at : (scan : Scan) (k : ℕ) → k < channels → get_or scan.warm-1 k 0 ≡ kept_at scan k
+warm_at : (scan : Scan) (k : ℕ) → k < channels → get_or scan.warm k 0 ≡ kept_at scan k
 warm_at scan k h = rw (lt-ltb k channels h)
 
-cold_at : (scan : Scan) (k : ℕ) → channels ≤ k → k < 2 * channels → get_or scan.cold-1 (k - channels) 0 ≡ kept_at scan k
+cold_at : (scan : Scan) (k : ℕ) → channels ≤ k → k < 2 * channels → get_or scan.cold (k - channels) 0 ≡ kept_at scan k
 cold_at scan k h l = rw (le-ltb k channels h, lt-ltb k (2 * channels) l)
 
-kelvin_at : (scan : Scan) (k : ℕ) → channels ≤ k → 2 * channels ≤ k → get_or scan.kelvin-1 (k - 2 * channels) 0 ≡ kept_at scan k
+kelvin_at : (scan : Scan) (k : ℕ) → channels ≤ k → 2 * channels ≤ k → get_or scan.kelvin (k - 2 * channels) 0 ≡ kept_at scan k
 kelvin_at scan k h l = rw (le-ltb k channels h, le-ltb k (2 * channels) l)
 
 accepted_scan_requires : tie.Need-accepted_scan-kept-requires

@@ -76,7 +76,7 @@ loop_again c =
     let i = l.loop-c.c in (
       omega arith,
       refl,
-      w.put_channel.auto.0 ∙ l.loop-c.invariant.2,
+      w.put_channel.auto.out ∙ l.loop-c.invariant.2,
       w.put_channel.ensures
           ∙ ap (λ (b : List ℕ). put b (1 + channel_numbers * i) (f i)) l.loop-c.invariant.3
           ∙ put_next_cell f channel_numbers (λ _. refl) (first_only first.first_number.result) 1 i (omega arith),

@@ -16,7 +16,7 @@ use Rattle.lastscan.proofs.numbers_of_channel.Tie as tie
 
 module _ {x : ℤ} {m : ℕ} (within : Bounded x (pos m)) where
   back : m < 9223372036854775808 → to_z w64 (of_z w64 x) ≡ x
-  back small = reads_back (bounded_fits within small)
+  back small = reads_back {w = w64} (bounded_fits within small)
 
   cast_fits : pos 0 ≤ℤ x → m < 4294967296 → T (non_neg (to_z w64 (of_z w64 x))) × Fits w32 (nat_abs (to_z w64 (of_z w64 x)))
   cast_fits not_negative small =

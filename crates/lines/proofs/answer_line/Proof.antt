@@ -36,15 +36,11 @@ refused_line_requires c κs = search rules
 returns : tie.Need-returns-in-Accepted
 unfolding reply_line
 returns c =
-    let known = c.before.before.before.before.before in
-    rw (known.before.answer-1.given.1, ← c.before.before.before.u32_at-number.ensures) c.scan_line.ensures
+    rw (c.in-Accepted.is, ← c.u32_at-number.ensures) c.scan_line.ensures
 
 returns_2 : tie.Need-returns-in-Refused
 returns_2 c =
-    let numbered = c.before.before in
-    let told = numbered.before.enum_told-1.given in
-    let product = numbered.before.before.before.args.product.now in
-    rw (← refused_line_of_answer told.1 numbered.answer_number.ensures product) c.refused_line.ensures
+    rw (← refused_line_of_answer c.in-Refused.is c.answer_number.ensures c.args.product.now) c.refused_line.ensures
 
 pub answer_line_spec : {M : Type 1} → statement M
 answer_line_spec =

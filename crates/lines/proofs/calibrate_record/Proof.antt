@@ -62,18 +62,18 @@ refused_line_requires c κs = search rules
 returns : tie.Need-returns-in-Accepted
 unfolding output_size error_line
 returns c =
-    let fed = c.before.before.before in
-    let a = fed.before.before.before.args in
-    let told = ap reply_of (sym c.enum_told-1.given.1) in
-    let long : length fed.feed-fed.new.1.1.0 ≡ product_size = fed.feed-fed.auto.1.1.0 ∙ length_product fed.before in (
+    let fed = c.before.before in
+    let a = c.args in
+    let told = ap reply_of (sym c.in-Accepted.is) in
+    let long : length c.feed-fed.new.buffer ≡ product_size = c.feed-fed.auto.buffer ∙ length_product fed.before in (
       (omega arith, simp length-take (omega arith)),
       (
         (omega arith, refl),
         (
-          ap (answered fed.feed-fed.result.calibrator) told ∙ step_of_feed fed,
-          fed.feed-fed.ensures.0.buffer_is,
+          ap (answered c.feed-fed.result.calibrator) told ∙ step_of_feed fed,
+          c.feed-fed.ensures.0.buffer_is,
           ap (λ (reply : Reply). put a.line.now 0 (error_line reply)) told ∙ ap (put a.line.now 0) (line_of_feed fed),
-          fed.feed-fed.ensures.1,
+          c.feed-fed.ensures.1,
         ),
       ),
     )
@@ -81,20 +81,19 @@ returns c =
 returns_2 : tie.Need-returns-in-Refused
 unfolding output_size
 returns_2 c =
-    let told = c.before.before.before in
-    let fed = told.before.before.before in
-    let a = fed.before.before.before.args in
-    let line = refused_line_of_error told.enum_told-in-Refused-1.given.1 c.before.before.answer_number.ensures in (
+    let fed = c.before.before.before.before.before in
+    let a = c.args in
+    let line = refused_line_of_error c.in-Refused.is c.answer_number.ensures in (
       (omega arith, refl),
       (
         c.refused_line.ensures.0,
         (
-          ap₂ (λ (output errors : ℕ). record { calibrator = fed.feed-fed.result.calibrator; output = output; errors = errors })
-              (ap (λ (answer : Answer). output_size (reply_of answer)) (sym told.enum_told-in-Refused-1.given.1)) (c.refused_line.ensures.1.0 ∙ ap length line)
+          ap₂ (λ (output errors : ℕ). record { calibrator = c.feed-fed.result.calibrator; output = output; errors = errors })
+              (ap (λ (answer : Answer). output_size (reply_of answer)) (sym c.in-Refused.is)) (c.refused_line.ensures.1.0 ∙ ap length line)
               ∙ step_of_feed fed,
-          fed.feed-fed.ensures.0.buffer_is,
+          c.feed-fed.ensures.0.buffer_is,
           c.refused_line.ensures.1.1 ∙ ap (put a.line.now 0) (line ∙ line_of_feed fed),
-          fed.feed-fed.ensures.1,
+          c.feed-fed.ensures.1,
         ),
       ),
     )

@@ -13,7 +13,7 @@ use Rattle.lines.proofs.list_record.Tie as tie
 
 line_of_feed : (c : tie.After-feed-fed)
     → let a = c.before.before.before.args in
-    reply_line (reply_of c.feed-fed.result.answer) c.feed-fed.new.1.1.0 ≡ listed_line a.calibrator a.scan.now
+    reply_line (reply_of c.feed-fed.result.answer) c.feed-fed.new.buffer ≡ listed_line a.calibrator a.scan.now
 unfolding listed_line empty_product
 line_of_feed c = ap₂ reply_line c.feed-fed.ensures.0.reply_is c.feed-fed.ensures.0.buffer_is
 
@@ -30,9 +30,9 @@ returns : tie.Need-returns
 unfolding listed_of empty_product
 returns c =
     let fed = c.before.before.before.before.before in
-    let a = fed.before.before.before.args in
+    let a = c.args in
     let line = line_of_feed fed in
-    let next = fed.feed-fed.ensures.0.calibrator_is in (
+    let next = c.feed-fed.ensures.0.calibrator_is in (
       c.answer_line-size.ensures.0,
       (
         ap₂ (λ (calibrator : Calibrator) (size : ℕ). record { calibrator = calibrator; size = size }) next

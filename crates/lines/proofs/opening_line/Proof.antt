@@ -29,19 +29,19 @@ refused_line_requires_3 c κs = search rules
 
 returns : tie.Need-returns-in-Accepted
 unfolding opening_line
-returns c = rw c.enum_told-1.given.1 ((omega arith, refl), (refl, refl))
+returns c = rw c.in-Accepted.is ((omega arith, refl), (refl, refl))
 
 returns_2 : tie.Need-returns-in-LengthWrong
 unfolding opening_line
-returns_2 c = rw c.before.before.enum_told-in-LengthWrong-1.given.1 c.refused_line.ensures
+returns_2 c = rw c.in-LengthWrong.is c.refused_line.ensures
 
 returns_3 : tie.Need-returns-in-FieldWrong
 unfolding opening_line
-returns_3 c = rw c.before.before.enum_told-in-FieldWrong-1.given.1 c.refused_line-in-FieldWrong.ensures
+returns_3 c = rw c.in-FieldWrong.is c.refused_line-in-FieldWrong.ensures
 
 returns_4 : tie.Need-returns-in-ValueOutside
 unfolding opening_line
-returns_4 c = rw c.before.before.enum_told-in-ValueOutside-1.given.1 c.refused_line-in-ValueOutside.ensures
+returns_4 c = rw c.in-ValueOutside.is c.refused_line-in-ValueOutside.ensures
 
 pub opening_line_spec : {M : Type 1} → statement M
 opening_line_spec =

@@ -16,10 +16,10 @@ few_digits : (c : tie.After-decimal-k) → IsDigitCount 10 1 c.before.before.bef
 few_digits c = subst (λ (m : ℕ). IsDigitCount 10 1 m c.decimal-k.result) c.before.before.wide.ensures c.decimal-k.ensures.1.0
 
 text_is_decimal : (c : tie.After-decimal-k)
-    → take c.decimal-k.result c.decimal-k.new.1.0 ≡ decimal c.before.before.before.before.args.n
+    → take c.decimal-k.result c.decimal-k.new.out ≡ decimal c.before.before.before.before.args.n
 text_is_decimal c =
     let n = c.before.before.before.before.args.n in
-    c.decimal-k.ensures.1.1
+    c.decimal-k.ensures.1.1.0
     ∙ ap (λ (m : ℕ). last_digits 10 c.decimal-k.result m) c.before.before.wide.ensures
     ∙ digits_are_decimal n c.decimal-k.result (few_digits c)
 

@@ -12,9 +12,6 @@ use borrow.Author.Rules.{rules}
 use Rattle.lines.proofs.scan_line.Statement.{statement}
 use Rattle.lines.proofs.scan_line.Tie as tie
 
-length_out : (c : tie.After-line-1) → length c.before.before.before.args.out.now ≡ 44 + channels
-length_out c = omega arith
-
 flag_digits_requires : tie.Need-flag_digits-digits-requires
 flag_digits_requires c κs = search rules
 
@@ -39,19 +36,14 @@ put_text_requires_3 c κs = search rules
 returns : tie.Need-returns
 unfolding scan_line
 returns c =
-    let flagged = c.before.before.before.before in
-    let named = flagged.before.before.before.before.before in
-    let counted = named.before.before.before.before.before in
-    let numbered = counted.before.before.before.before.before in
-    let digits = numbered.before.before.before.before in
-    let a = digits.before.before.args in
-    let room = length_out numbered.before.before.before in
-    let number = begins a.out.now (ascii "scan " ++ decimal a.number) numbered.put_labelled-numbered.ensures.2 numbered.put_labelled-numbered.ensures.1 in
-    let delivered = with_parts number (omega arith) (ascii " delivered ") (decimal a.delivered) counted.put_labelled-counted.ensures.2 counted.put_labelled-counted.ensures.1 in
-    let label = with_part delivered (omega arith) (ascii " flags ") named.put_text-named.ensures.1 named.put_text-named.ensures.0 in
+    let a = c.args in
+    let room : length c.args.out.now ≡ 44 + channels = omega arith in
+    let number = begins a.out.now (ascii "scan " ++ decimal a.number) c.put_labelled-numbered.ensures.2 c.put_labelled-numbered.ensures.1 in
+    let delivered = with_parts number (omega arith) (ascii " delivered ") (decimal a.delivered) c.put_labelled-counted.ensures.2 c.put_labelled-counted.ensures.1 in
+    let label = with_part delivered (omega arith) (ascii " flags ") c.put_text-named.ensures.1 c.put_text-named.ensures.0 in
     let flags = with_part label (omega arith) (flag_digits a.flags.now)
-    (flagged.put_text-flagged.ensures.1 ∙ ap (λ (l : List ℕ). put named.put_text-named.new.0 named.put_text-named.result l) digits.flag_digits-digits.ensures)
-    (flagged.put_text-flagged.ensures.0 ∙ ap (λ (l : List ℕ). named.put_text-named.result + length l) digits.flag_digits-digits.ensures) in
+    (c.put_text-flagged.ensures.1 ∙ ap (λ (l : List ℕ). put c.put_text-named.new.out c.put_text-named.result l) c.flag_digits-digits.ensures)
+    (c.put_text-flagged.ensures.0 ∙ ap (λ (l : List ℕ). c.put_text-named.result + length l) c.flag_digits-digits.ensures) in
     let whole = with_part flags (omega arith) (ascii "\n") c.put_text.ensures.1 c.put_text.ensures.0 in
     (counts_line whole (omega arith), (whole.size, whole.whole))
 

@@ -22,16 +22,14 @@ put_text_requires_2 c κs = search rules
 returns : tie.Need-returns-in-InputUnread
 unfolding stop_line
 returns c =
-    let w = c.before.before.before in
-    let line = begins w.before.before.args.out.now (stop_line InputUnread) c.put_text.ensures.1 c.put_text.ensures.0 in
-    rw w.enum_told-1.given.1 (counts_line line (omega arith), (line.size, line.whole))
+    let line = begins c.args.out.now (stop_line InputUnread) c.put_text.ensures.1 c.put_text.ensures.0 in
+    rw c.in-InputUnread.is (counts_line line (omega arith), (line.size, line.whole))
 
 returns_2 : tie.Need-returns-in-OutputUnwritten
 unfolding stop_line
 returns_2 c =
-    let w = c.before.before.before in
-    let line = begins w.before.before.args.out.now (stop_line OutputUnwritten) c.put_text-in-OutputUnwritten.ensures.1 c.put_text-in-OutputUnwritten.ensures.0 in
-    rw w.enum_told-in-OutputUnwritten-1.given.1 (counts_line line (omega arith), (line.size, line.whole))
+    let line = begins c.args.out.now (stop_line OutputUnwritten) c.put_text-in-OutputUnwritten.ensures.1 c.put_text-in-OutputUnwritten.ensures.0 in
+    rw c.in-OutputUnwritten.is (counts_line line (omega arith), (line.size, line.whole))
 
 pub stop_line_spec : {M : Type 1} → statement M
 stop_line_spec =

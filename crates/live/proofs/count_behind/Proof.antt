@@ -61,24 +61,16 @@ enum_told_3 : tie.Need-enum_told-in-NotCalibrated
 enum_told_3 c = search rules
 
 returns_2 : tie.Need-returns-in-Count
-returns_2 c =
-    let found = c.before.before.before in
-    found_leaves (sym (ap found_by c.before.answer-1.given.1) ∙ answered found) (start_of found.before.before).args.count.now
+returns_2 c = found_leaves (sym (ap found_by c.in-Count.is) ∙ answered c.before) c.args.count.now
 
 returns_3 : tie.Need-returns-in-NoCount
-returns_3 c =
-    let found = c.before.before in
-    found_leaves (sym (ap found_by c.enum_told-1.given.1) ∙ answered found) (start_of found.before.before).args.count.now
+returns_3 c = found_leaves (sym (ap found_by c.in-NoCount.is) ∙ answered c.before) c.args.count.now
 
 returns_4 : tie.Need-returns-in-ChannelOutside
-returns_4 c =
-    let found = c.before.before in
-    found_leaves (sym (ap found_by c.enum_told-in-ChannelOutside-1.given.1) ∙ answered found) (start_of found.before.before).args.count.now
+returns_4 c = found_leaves (sym (ap found_by c.in-ChannelOutside.is) ∙ answered c.before) c.args.count.now
 
 returns_5 : tie.Need-returns-in-NotCalibrated
-returns_5 c =
-    let found = c.before.before in
-    found_leaves (sym (ap found_by c.enum_told-in-NotCalibrated-1.given.1) ∙ answered found) (start_of found.before.before).args.count.now
+returns_5 c = found_leaves (sym (ap found_by c.in-NotCalibrated.is) ∙ answered c.before) c.args.count.now
 
 pub count_behind_spec : {M : Type 1} → statement M
 count_behind_spec =

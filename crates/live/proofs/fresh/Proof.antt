@@ -27,7 +27,7 @@ table_passed : (x : tie.Else-number-ne0) → opening (start_of x).args.table.now
 table_passed x =
     let number = x.before in
     let opened = number.before in
-    passed_at_zero opened.«open».result.answer opened.«open».ensures.0 number.refusal_number-number.ensures x.if-number-ne0.false
+    passed_at_zero opened.open-answer.result.answer opened.open-answer.ensures.0 number.refusal_number-number.ensures x.if-number-ne0.false
 
 bias_passed : (x : tie.Else-after-ne0) → bias_opening (start_of x.before.before.before).args.bias.now ≡ passes
 bias_passed x =
@@ -46,7 +46,7 @@ returns c =
     let number = c.before in
     let opened = number.before in
     let a = opened.before.before.before.before.args in
-    let is = both_by_table a.table.now a.bias.now (number_is opened.«open».result.answer opened.«open».ensures.0 number.refusal_number-number.ensures) c.if-number-ne0.true in
+    let is = both_by_table a.table.now a.bias.now (number_is opened.open-answer.result.answer opened.open-answer.ensures.0 number.refusal_number-number.ensures) c.if-number-ne0.true in
     let leaves = refused_by_opening a.table.now a.bias.now a.state.now is c.if-number-ne0.true in
     (leaves.answer_is, leaves.state_is)
 

@@ -64,13 +64,13 @@ returns_3 c =
 
 count_with_requires : tie.Need-count_with-requires
 count_with_requires c κs =
-    let e = c.before.before.before.before.before.before in
+    let e = c.before.before.before.before.before.before.before in
     let s = e.before.before in
-    (s.requires.kept (not-false s.args.last.any c.before.before.before.before.if-not-last.false) (s.args.channel - 1) (omega (arith, numbered e))).constants c.if-kept-ne0.false
+    (s.requires.kept (not-false s.args.last.any c.before.before.before.before.before.if-not-last.false) (s.args.channel - 1) (omega (arith, numbered e))).constants c.if-kept-ne0.false
 
 returns_4 : tie.Need-returns
 returns_4 c =
-    let else = c.before in
+    let else = c.before.before in
     let e = else.before.before.before.before.before.before in
     let s = e.before.before in
     let some = not-false s.args.last.any else.before.before.before.before.if-not-last.false in

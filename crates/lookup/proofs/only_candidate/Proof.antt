@@ -114,20 +114,20 @@ loop_again c =
     (λ w. (
       omega arith,
       omega (arith, now-half),
-      omega (arith, now-half, left, w.1),
+      omega (arith, now-half, left, w.first-is),
       λ count small fits.
-          let from : l.first + l.half ≤ count = fits_from h a.wanted (l.first + l.half) count fits (le_z_true (rw (reads_placed asked, reads_wanted asked) at w.0.taken)) in
-          omega (arith, among count small fits, now-half, whole, w.1),
+          let from : l.first + l.half ≤ count = fits_from h a.wanted (l.first + l.half) count fits (le_z_true (rw (reads_placed asked, reads_wanted asked) at w.if-placed_units-wanted.true)) in
+          omega (arith, among count small fits, now-half, whole, w.first-is),
     ))
     (λ w. (
       omega arith,
       omega (arith, now-half),
-      omega (arith, left, w.1),
+      omega (arith, left, w.first-is),
       λ count small fits.
-          let below : count < l.first + l.half = fits_below h a.wanted (l.first + l.half) count fits (le_z_false (rw (reads_placed asked, reads_wanted asked) at w.0.left)) in
-          omega (arith, among count small fits, now-half, w.1),
+          let below : count < l.first + l.half = fits_below h a.wanted (l.first + l.half) count fits (le_z_false (rw (reads_placed asked, reads_wanted asked) at w.if-placed_units-wanted.false)) in
+          omega (arith, among count small fits, now-half, w.first-is),
     ))
-    c.if-placed_units-wanted.branch
+    c.if-placed_units-wanted.branch-raw
 
 returns : tie.Need-returns invariant_loop decreases_loop
 returns c count small fits =

@@ -24,7 +24,7 @@ abbrev decreases_loop : tie.decreases-loop-c
 decreases_loop all n₀ c₀ n c = channels - c
 
 loop_holds : tie.Need-loop-c-init invariant_loop decreases_loop
-loop_holds c = (search rules, sym (sum_none (count_at c.args.t1)), search rules)
+loop_holds c = (search rules, sym (sum_none (count_at c.args.all)), search rules)
 
 mul_s : tie.Need-offset_bounds-all-c invariant_loop decreases_loop
 mul_s c = omega arith
@@ -47,9 +47,9 @@ loop_less c = omega arith
 loop_again : tie.Need-loop-c-preserved invariant_loop decreases_loop
 loop_again c =
     let l = c.before.before.before in
-    let counts = count_at l.before.args.t1 in (
+    let counts = count_at l.before.args.all in (
       omega arith,
-      ap (λ (s : Summary). l.loop-c.n + s.count) (summary_of l.before.args.t1 l.loop-c.c (search rules))
+      ap (λ (s : Summary). l.loop-c.n + s.count) (summary_of l.before.args.all l.loop-c.c (search rules))
           ∙ ap (λ (n : ℕ). n + counts l.loop-c.c) l.loop-c.invariant.1
           ∙ sym (sum_more counts l.loop-c.c),
       omega arith,
@@ -59,7 +59,7 @@ returns : tie.Need-returns invariant_loop decreases_loop
 returns c =
     let l = c.before in
     let last : l.loop-c.c ≡ channels = omega arith in
-    l.loop-c.invariant.1 ∙ ap (sum (count_at l.before.args.t1)) last
+    l.loop-c.invariant.1 ∙ ap (sum (count_at l.before.args.all)) last
 
 pub total_count_spec : {M : Type 1} → statement M
 total_count_spec =

@@ -134,7 +134,7 @@ loop_again c =
     let i = l.loop-i.i in
     let in-bits = w.before.bits_of.ensures ∙ ap bits (scene_is s) in (
       omega arith,
-      w.put_u32.auto.0 ∙ l.loop-i.invariant.1,
+      w.put_u32.auto.out ∙ l.loop-i.invariant.1,
       t.with_scene-summary.ensures
           ∙ ap (with_scene l.loop-i.summary) (scene_is s)
           ∙ ap (λ (s : Summary). with_scene s (scenes i)) l.loop-i.invariant.2

@@ -24,7 +24,7 @@ abbrev decreases_loop : tie.decreases-loop-c
 decreases_loop out₀ states c₀ out c = channels - c
 
 loop_holds : tie.Need-loop-c-init invariant_loop decreases_loop
-loop_holds c = (search rules, search rules, tabulated_none (flag_at c.args.t2) c.args.out.now)
+loop_holds c = (search rules, search rules, tabulated_none (flag_at c.args.states) c.args.out.now)
 
 mul_channel : tie.Need-offset_bounds-states-c invariant_loop decreases_loop
 mul_channel c = omega arith
@@ -47,7 +47,7 @@ loop_again c =
     let a = l.before.args in (
       omega arith,
       simp length-set l.loop-c.invariant.1,
-      filled_by_store (flag_at a.t2) a.out.now l.loop-c.c (omega arith) l.loop-c.invariant.2 refl,
+      filled_by_store (flag_at a.states) a.out.now l.loop-c.c (omega arith) l.loop-c.invariant.2 refl,
     )
 
 same_length : tie.Need-shape_of-out invariant_loop decreases_loop
@@ -58,7 +58,7 @@ unfolding flag_bytes
 returns c =
     let l = c.before in
     let a = l.before.args in
-    tabulated_to_end (flag_at a.t2) channels a.out.now (omega arith) (omega arith) l.loop-c.invariant.2
+    tabulated_to_end (flag_at a.states) channels a.out.now (omega arith) (omega arith) l.loop-c.invariant.2
 
 pub write_flags_spec : {M : Type 1} → statement M
 write_flags_spec =

@@ -65,63 +65,63 @@ module _ (s : tie.Start) where
       length_part whole (value_start product_layout k) (field_at product_layout k).size (room fronted inside within)
 
 abbrev start1 : tie.After-put_head → tie.Start
-start1 c = c.before.before.before.before.before
+start1 c = c.before.before.before.before.before.before.before.before.before
 
 abbrev start2 : tie.After-put_u32 → tie.Start
 start2 c = start1 c.before.before.before.before
 
 abbrev start3 : tie.After-put_head-2 → tie.Start
-start3 c = start2 c.before.before.before.before
+start3 c = start2 c.before.before.before.before.before.before.before.before
 
 abbrev start4 : tie.After-write_flags → tie.Start
 start4 c = start3 c.before.before.before.before
 
 abbrev start5 : tie.After-put_head-3 → tie.Start
-start5 c = start4 c.before.before.before.before
+start5 c = start4 c.before.before.before.before.before.before.before.before
 
 abbrev start6 : tie.After-write_scenes-all → tie.Start
 start6 c = start5 c.before.before.before.before
 
 abbrev start7 : tie.After-put_head-4 → tie.Start
-start7 c = start6 c.before.before.before.before
+start7 c = start6 c.before.before.before.before.before.before.before.before
 
 abbrev start8 : tie.After-write_summaries → tie.Start
 start8 c = start7 c.before.before.before.before
 
-number_head : (c : tie.After-put_head) → AtFront (start1 c) (head_of 0) (value_start product_layout 0) c.put_head.new.0
+number_head : (c : tie.After-put_head) → AtFront (start1 c) (head_of 0) (value_start product_layout 0) c.put_head.new.out
 number_head c = front_and_put (front_none (start1 c).args.buffer.now) (head_of 0) refl c.put_head.ensures
 
-number_value : (c : tie.After-put_u32) → AtFront (start2 c) (with_number (start2 c)) (field_start product_layout 1) c.put_u32.new.0
+number_value : (c : tie.After-put_u32) → AtFront (start2 c) (with_number (start2 c)) (field_start product_layout 1) c.put_u32.new.out
 number_value c = front_and_put (number_head c.before.before.before.before) (u32_bytes (start2 c).args.number) refl c.put_u32.ensures
 
-flags_head : (c : tie.After-put_head-2) → AtFront (start3 c) (with_number (start3 c) ++ head_of 1) (value_start product_layout 1) c.put_head-2.new.0
-flags_head c = front_and_put (number_value c.before.before.before.before) (head_of 1) refl c.put_head-2.ensures
+flags_head : (c : tie.After-put_head-2) → AtFront (start3 c) (with_number (start3 c) ++ head_of 1) (value_start product_layout 1) c.put_head-2.new.out
+flags_head c = front_and_put (number_value c.before.before.before.before.before.before.before.before) (head_of 1) refl c.put_head-2.ensures
 
 flags_value : (c : tie.After-write_flags) → AtFront (start4 c) (with_flags (start4 c)) (field_start product_layout 2)
-    (value_back 1 c.before.before.before.before.put_head-2.new.0 c.write_flags.new.0)
+    (value_back 1 c.before.before.before.before.put_head-2.new.out c.write_flags.new.out)
 flags_value c =
     let states = (start4 c).args.states in
     front_and_lent (flags_head c.before.before.before.before) (flag_bytes states) (length_flag_bytes states) c.write_flags.ensures
 
-scenes_head : (c : tie.After-put_head-3) → AtFront (start5 c) (with_flags (start5 c) ++ head_of 2) (value_start product_layout 2) c.put_head-3.new.0
-scenes_head c = front_and_put (flags_value c.before.before.before.before) (head_of 2) refl c.put_head-3.ensures
+scenes_head : (c : tie.After-put_head-3) → AtFront (start5 c) (with_flags (start5 c) ++ head_of 2) (value_start product_layout 2) c.put_head-3.new.out
+scenes_head c = front_and_put (flags_value c.before.before.before.before.before.before.before.before) (head_of 2) refl c.put_head-3.ensures
 
 scenes_value : (c : tie.After-write_scenes-all) → AtFront (start6 c) (with_scenes (start6 c)) (field_start product_layout 3)
-    (value_back 2 c.before.before.before.before.put_head-3.new.0 c.write_scenes-all.new.0)
+    (value_back 2 c.before.before.before.before.put_head-3.new.out c.write_scenes-all.new.out)
 scenes_value c =
     let a = (start6 c).args in
     front_and_lent (scenes_head c.before.before.before.before) (scene_bytes (deliver (start6 c)) a.states a.earth.now)
     (length_scene_bytes (deliver (start6 c)) a.states a.earth.now) c.write_scenes-all.ensures.1
 
-summaries_head : (c : tie.After-put_head-4) → AtFront (start7 c) (with_scenes (start7 c) ++ head_of 3) (value_start product_layout 3) c.put_head-4.new.0
-summaries_head c = front_and_put (scenes_value c.before.before.before.before) (head_of 3) refl c.put_head-4.ensures
+summaries_head : (c : tie.After-put_head-4) → AtFront (start7 c) (with_scenes (start7 c) ++ head_of 3) (value_start product_layout 3) c.put_head-4.new.out
+summaries_head c = front_and_put (scenes_value c.before.before.before.before.before.before.before.before) (head_of 3) refl c.put_head-4.ensures
 
 summaries_value : (c : tie.After-write_summaries) → AtFront (start8 c) (with_summaries (start8 c)) product_size
-    (value_back 3 c.before.before.before.before.put_head-4.new.0 c.write_summaries.new.0)
+    (value_back 3 c.before.before.before.before.put_head-4.new.out c.write_summaries.new.out)
 summaries_value c =
     let a = (start8 c).args in
     let all = summaries (deliver (start8 c)) a.states a.earth.now in
-    let same = c.before.before.before.before.before.before.before.before.write_scenes-all.ensures.0 in
+    let same = c.before.before.before.before.before.before.before.before.before.before.before.before.write_scenes-all.ensures.0 in
     front_and_lent (summaries_head c.before.before.before.before) (summaries_bytes all) (length_summaries_bytes all)
     (c.write_summaries.ensures ∙ ap summaries_bytes same)
 
@@ -139,7 +139,7 @@ array_read_put_head_2 : tie.Need-bounds-0-2
 array_read_put_head_2 c = lit< tt
 
 put_head_requires : tie.Need-put_head-requires
-put_head_requires c κs = let s = c.before.before.before.before in room s (front_none s.args.buffer.now) (lit≤ tt) (lit≤ tt)
+put_head_requires c κs = let s = c.before.before.before.before.before.before.before.before in room s (front_none s.args.buffer.now) (lit≤ tt) (lit≤ tt)
 
 put_u32_requires : tie.Need-put_u32-requires
 put_u32_requires c κs = let w = c.before.before.before in room (start1 w) (number_head w) (lit≤ tt) (lit≤ tt)
@@ -151,7 +151,7 @@ array_read_put_head_4 : tie.Need-bounds-1-2
 array_read_put_head_4 c = lit< tt
 
 put_head_requires_2 : tie.Need-put_head-requires-2
-put_head_requires_2 c κs = let w = c.before.before.before in room (start2 w) (number_value w) (lit≤ tt) (lit≤ tt)
+put_head_requires_2 c κs = let w = c.before.before.before.before.before.before.before in room (start2 w) (number_value w) (lit≤ tt) (lit≤ tt)
 
 sub_write_flags : tie.Need-slice_bounds-write_flags-count
 sub_write_flags c = lit≤ tt
@@ -172,7 +172,7 @@ array_read_put_head_6 : tie.Need-bounds-2-2
 array_read_put_head_6 c = lit< tt
 
 put_head_requires_3 : tie.Need-put_head-requires-3
-put_head_requires_3 c κs = let w = c.before.before.before in room (start4 w) (flags_value w) (lit≤ tt) (lit≤ tt)
+put_head_requires_3 c κs = let w = c.before.before.before.before.before.before.before in room (start4 w) (flags_value w) (lit≤ tt) (lit≤ tt)
 
 add_write_scenes : tie.Need-overflow_add-write_scenes
 add_write_scenes c = Fits-lit tt
@@ -199,7 +199,7 @@ array_read_put_head_8 : tie.Need-bounds-3-2
 array_read_put_head_8 c = lit< tt
 
 put_head_requires_4 : tie.Need-put_head-requires-4
-put_head_requires_4 c κs = let w = c.before.before.before in room (start6 w) (scenes_value w) (lit≤ tt) (lit≤ tt)
+put_head_requires_4 c κs = let w = c.before.before.before.before.before.before.before in room (start6 w) (scenes_value w) (lit≤ tt) (lit≤ tt)
 
 add_write_summaries : tie.Need-overflow_add-write_summaries
 add_write_summaries c = Fits-lit tt
@@ -216,7 +216,7 @@ part_write_summaries_end c = let w = c.before.before in room (start7 w) (summari
 write_summaries_requires : tie.Need-write_summaries-requires
 write_summaries_requires c κs =
     let w = c.before.before.before in
-    (value_room (start7 w) 3 (summaries_head w) (lit≤ tt) (lit≤ tt), each_is_plain w.before.before.before.before)
+    (value_room (start7 w) 3 (summaries_head w) (lit≤ tt) (lit≤ tt), each_is_plain w.before.before.before.before.before.before.before.before)
 
 total_count_requires : tie.Need-total_count-requires
 total_count_requires c κs = tt
@@ -233,7 +233,7 @@ returns c =
     let w = c.before.before.before in
     let a = (start8 w).args in
     let earth = a.earth.now in
-    let same = w.before.before.before.before.before.before.before.before.write_scenes-all.ensures.0 in (
+    let same = w.before.before.before.before.before.before.before.before.before.before.before.before.write_scenes-all.ensures.0 in (
       c.total_count.ensures
           ∙ ap (λ (s : List Summary). sum (λ k. (get_or s k none_delivered).count) channels) same
           ∙ counts_of_summaries (deliver (start8 w)) a.states earth,

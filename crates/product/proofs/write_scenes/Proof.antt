@@ -62,8 +62,8 @@ loop_holds c =
       lit≤ tt,
       s.requires.0.0,
       refl,
-      tabulated_none (summary_at a.t2 a.pairs.now a.earth.now) (replicate channels c.none-none.result),
-      filled_none (bytes_at a.t2 a.pairs.now a.earth.now) stretch_size a.out.now,
+      tabulated_none (summary_at a.states a.pairs.now a.earth.now) (replicate channels c.none-none.result),
+      filled_none (bytes_at a.states a.pairs.now a.earth.now) stretch_size a.out.now,
     )
 
 mul_channel : tie.Need-offset_bounds-states-c invariant_loop decreases_loop
@@ -159,17 +159,17 @@ loop_again c =
     let start = stretch_size * k in
     let lent = part_is_take pairs (pairs_size * k) pairs_size in
     let counts = part_is_take earth (earth_size * k) earth_size in
-    let channel = get_or a.t2 k no_channel in
-    let bytes : w.new.0 ≡ bytes_at a.t2 pairs earth k =
+    let channel = get_or a.states k no_channel in
+    let bytes : w.new.out ≡ bytes_at a.states pairs earth k =
     w.ensures.1 ∙ ap₂ (λ (p q : List ℕ). channel_scenes (with_pairs p) channel q) lent counts in
-    let summary : w.result ≡ summary_at a.t2 pairs earth k =
+    let summary : w.result ≡ summary_at a.states pairs earth k =
     w.ensures.0 ∙ ap₂ (λ (p q : List ℕ). summary_of (with_pairs p) channel q) lent counts in (
       add-one-le t.loop-c-test.true,
       c.before.out-1.given.1 ∙ l.loop-c.invariant.1,
       simp length-set l.loop-c.invariant.2,
-      filled_by_store (summary_at a.t2 pairs earth) (replicate channels l.before.none-none.result) k t.loop-c-test.true l.loop-c.invariant.3 summary,
-      filled_by_put (bytes_at a.t2 pairs earth) stretch_size (λ n. length_channel_scenes _ _ _) a.out.now k l.loop-c.invariant.4 bytes
-          (lent_part_is_put l.loop-c.out w.new.0 start (start + stretch_size) (ap (λ (n : ℕ). start + n) (ap length bytes ∙ length_channel_scenes (by_pairs pairs k) channel _))),
+      filled_by_store (summary_at a.states pairs earth) (replicate channels l.before.none-none.result) k t.loop-c-test.true l.loop-c.invariant.3 summary,
+      filled_by_put (bytes_at a.states pairs earth) stretch_size (λ n. length_channel_scenes _ _ _) a.out.now k l.loop-c.invariant.4 bytes
+          (lent_part_is_put l.loop-c.out w.new.out start (start + stretch_size) (ap (λ (n : ℕ). start + n) (ap length bytes ∙ length_channel_scenes (by_pairs pairs k) channel _))),
     )
 
 same_length : tie.Need-shape_of-out invariant_loop decreases_loop
@@ -184,8 +184,8 @@ returns c =
     let pairs = a.pairs.now in
     let earth = a.earth.now in
     let last : l.loop-c.c ≡ channels = omega arith in (
-      tabulated_to_end (summary_at a.t2 pairs earth) channels (replicate channels l.before.none-none.result) last (le_refl channels) l.loop-c.invariant.3,
-      filled_to_end (bytes_at a.t2 pairs earth) stretch_size channels a.out.now last s.requires.0.0 l.loop-c.invariant.4,
+      tabulated_to_end (summary_at a.states pairs earth) channels (replicate channels l.before.none-none.result) last (le_refl channels) l.loop-c.invariant.3,
+      filled_to_end (bytes_at a.states pairs earth) stretch_size channels a.out.now last s.requires.0.0 l.loop-c.invariant.4,
     )
 
 pub write_scenes_spec : {M : Type 1} → statement M

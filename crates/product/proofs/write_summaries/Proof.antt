@@ -27,7 +27,7 @@ abbrev decreases_loop : tie.decreases-loop-c
 decreases_loop out₀ all c₀ out c = channels - c
 
 loop_holds : tie.Need-loop-c-init invariant_loop decreases_loop
-loop_holds c = (search rules, search rules, filled_none (bytes_at c.before.args.t2) summary_size c.before.args.out.now)
+loop_holds c = (search rules, search rules, filled_none (bytes_at c.before.args.all) summary_size c.before.args.out.now)
 
 mul_s : tie.Need-offset_bounds-all-c invariant_loop decreases_loop
 mul_s c = omega arith
@@ -43,7 +43,7 @@ put_summary_requires c κs =
     let l = c.before.before.before in
     let s = l.before.before in (
       omega arith,
-      subst Plain (sym (summary_of s.args.t2 l.loop-c.c (search rules))) (s.requires.1 l.loop-c.c c.before.before.loop-c-test.true),
+      subst Plain (sym (summary_of s.args.all l.loop-c.c (search rules))) (s.requires.1 l.loop-c.c c.before.before.loop-c-test.true),
     )
 
 add_c : tie.Need-overflow_step-c invariant_loop decreases_loop
@@ -59,9 +59,9 @@ loop_again c =
     let a = l.before.before.args in
     let k = l.loop-c.c in (
       omega arith,
-      w.auto.0 ∙ l.loop-c.invariant.1,
-      filled_by_put (bytes_at a.t2) summary_size (λ i. length_summary_bytes _) a.out.now k
-          l.loop-c.invariant.2 (ap summary_bytes (summary_of a.t2 k (search rules))) w.ensures,
+      w.auto.out ∙ l.loop-c.invariant.1,
+      filled_by_put (bytes_at a.all) summary_size (λ i. length_summary_bytes _) a.out.now k
+          l.loop-c.invariant.2 (ap summary_bytes (summary_of a.all k (search rules))) w.ensures,
     )
 
 same_length : tie.Need-shape_of-out invariant_loop decreases_loop
@@ -72,7 +72,7 @@ unfolding summaries_bytes
 returns c =
     let l = c.before in
     let a = l.before.before.args in
-    filled_to_end (bytes_at a.t2) summary_size channels a.out.now (omega arith) l.before.before.requires.0 l.loop-c.invariant.2
+    filled_to_end (bytes_at a.all) summary_size channels a.out.now (omega arith) l.before.before.requires.0 l.loop-c.invariant.2
 
 pub write_summaries_spec : {M : Type 1} → statement M
 write_summaries_spec =

@@ -89,7 +89,7 @@ returns c =
     let l = c.before.before.before in
     let s = l.before.before.before.before.before.before.before.before in
     let h = s.requires in
-    reads_back (record { sfits = c.units_of.type_inv })
+    reads_back {w = w64} (record { sfits = c.units_of.type_inv })
     ∙ (rw (start_reads_back h.0 h.1, curve_reads_back h.0 h.1, x_reads_back l.before.before.before.before.before, linear_reads_back l) at c.units_of.ensures)
     ∙ units_from_start s.args.k.tc (r (s.args.n *ℤ s.args.k.rise) s.args.k.d) (X s.args.n s.args.k.d) s.args.k.tnl
 

@@ -6,13 +6,13 @@ use lib.Ieee.{binary32, mul, div, of_int, of_bits, in_float}
 use Rattle.integers.proofs.Machine.{reads_back}
 use Rattle.scene.specs.Scene.{kelvin}
 use Rattle.scene.proofs.Delivered.{WithinGuard, within_guard}
-use Rattle.scene.proofs.Exact.{in_float, product_is_kelvin}
+use Rattle.scene.proofs.Exact.{in_float_lem, product_is_kelvin}
 use Rattle.scene.proofs.kelvin_of.Statement.{statement}
 use Rattle.scene.proofs.kelvin_of.Tie as tie
 
 module _ {t : ℤ} (w : WithinGuard t) where
   cast_in_float : T (in_float binary32 t)
-  cast_in_float = subst (λ z. T (in_float binary32 z)) w.same (in_float (nat_abs t) w.high)
+  cast_in_float = subst (λ z. T (in_float binary32 z)) w.same (in_float_lem (nat_abs t) w.high)
 
   product_is : mul binary32 (of_int binary32 t) (div binary32 (of_bits binary32 1065353216) (of_bits binary32 1166016512)) ≡ kelvin (nat_abs t)
   product_is =

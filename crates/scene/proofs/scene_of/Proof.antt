@@ -77,7 +77,7 @@ t_is c =
     rw (n_is h m, reads_back (n_fits h m)) at c.units-t.ensures
 
 t_reads_back : (c : tie.After-units-t) → to_z w64 (of_z w64 c.units-t.result) ≡ c.units-t.result
-t_reads_back c = reads_back (record { sfits = c.units-t.type_inv })
+t_reads_back c = reads_back {w = w64} (record { sfits = c.units-t.type_inv })
 
 module _ (c : tie.After-units-t) where
   abbrev begin : tie.Start
@@ -104,7 +104,7 @@ module _ (c : tie.After-biased_units) where
   delivered = deliver (begin c.before) (t c.before)
 
   delivered_is : to_z w32 (of_z w32 c.biased_units.result) ≡ delivered
-  delivered_is = reads_back (record { sfits = c.biased_units.type_inv }) ∙ rw (t_reads_back c.before, t_is c.before) at c.biased_units.ensures
+  delivered_is = reads_back {w = w32} (record { sfits = c.biased_units.type_inv }) ∙ rw (t_reads_back c.before, t_is c.before) at c.biased_units.ensures
 
   delivered_from : pos 1 ≤ℤ delivered
   delivered_from = let u = c.before in biased_low (begin u).requires.2.c0 (begin u).requires.2.e (temperature_low (in-range u)) (temperature_high (in-range u))

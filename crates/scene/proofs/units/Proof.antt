@@ -84,7 +84,7 @@ divided_units_requires c κs = let s = c.before.before.before.before.before in r
 returns : tie.Need-returns-then-unsure
 returns c =
     let s = c.before.before.before.before.before.before in
-    reads_back (record { sfits = c.divided_units.type_inv }) ∙ rw (reads_back s.ranges.n) at c.divided_units.ensures
+    reads_back {w = w64} (record { sfits = c.divided_units.type_inv }) ∙ rw (reads_back s.ranges.n) at c.divided_units.ensures
 
 -- ---- sure
 module _ (c : tie.Else-unsure) where
@@ -128,7 +128,7 @@ returns_2 c =
     let e = c.before.before.before in
     let s = start e in
     let h = s.requires in
-    reads_back (record { sfits = c.units_of.type_inv })
+    reads_back {w = w64} (record { sfits = c.units_of.type_inv })
     ∙ (rw (start_reads_back h.0 h.1, curve_reads_back h.0 h.1, reads_back (rise_fits h.0), found_x e, found_linear e) at c.units_of.ensures)
     ∙ units_from_start s.args.k.tc (r (s.args.n *ℤ s.args.k.rise) s.args.k.d) (X s.args.n s.args.k.d) s.args.k.tnl
 

@@ -23,15 +23,15 @@ returns c = search rules
 
 returns_2 : tie.Need-returns-in-Flagged
 unfolding of_bits neg
-returns_2 c = ap value (sym c.enum_told-1.given.1)
+returns_2 c = ap value (sym c.in-Flagged.is)
 
 returns_3 : tie.Need-returns-in-Outside
 unfolding of_bits neg
-returns_3 c = ap value (sym c.enum_told-in-Outside-1.given.1)
+returns_3 c = ap value (sym c.in-Outside.is)
 
 returns_4 : tie.Need-returns-in-Guard
 unfolding of_bits neg
-returns_4 c = ap value (sym c.enum_told-in-Guard-1.given.1)
+returns_4 c = ap value (sym c.in-Guard.is)
 
 pub value_of_spec : {M : Type 1} → statement M
 value_of_spec = tie.close (tie.spec enum_known_s enum_told enum_told_2 enum_told_3 returns returns_2 returns_3 returns_4)

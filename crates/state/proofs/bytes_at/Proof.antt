@@ -1,7 +1,8 @@
 -- `bytes_at` meets its contract: the copy of a part that is as long as `out` is the part.
 use lib.ListN.{length, take, drop}
+use mathlib.Core.Path.{◌∙◌}
 use borrow.Author.Rules.{rules}
-use Rattle.lists.proofs.Put.{part_is_take, length_part, copied_whole}
+use Rattle.lists.proofs.Put.{part_is_take}
 use Rattle.state.proofs.bytes_at.Statement.{statement}
 use Rattle.state.proofs.bytes_at.Tie as tie
 
@@ -29,7 +30,7 @@ returns c =
     let start = copy.before.before.before.before.before in
     let state = start.args.state.now in
     let n = length start.args.out.now in
-    copied_whole (take n (drop start.args.at state)) start.args.out.now _ (length_part state start.args.at n start.requires) (rw (part_is_take state start.args.at n) at copy.copy.ensures.1)
+    copy.copy_from_slice.ensures.1 ∙ part_is_take state start.args.at n
 
 pub bytes_at_spec : {M : Type 1} → statement M
 bytes_at_spec =

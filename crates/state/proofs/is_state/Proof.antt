@@ -1,4 +1,4 @@
--- `is_state_lem` meets its contract: each test that fails says that the bytes are no state; where those before hold, the values decide.
+-- `is_state` meets its contract: each test that fails says that the bytes are no state; where those before hold, the values decide.
 use mathlib.Core.Path.{◌≡◌, sym, ◌∙◌}
 use borrow.Author.Rules.{rules}
 use Rattle.lists.specs.Tests.{passes}
@@ -8,8 +8,8 @@ use Rattle.table.proofs.OpenedLaws.{number_is, passed_at_zero}
 use Rattle.bias.proofs.OpeningLaws.{both_by_table, both_by_bias, both_pass}
 use Rattle.state.specs.State.{table_in, bias_in}
 use Rattle.state.proofs.StateLaws.{short_is_no_state, wrong_front_is_no_state, refused_is_no_state, state_by_values}
-use Rattle.state.proofs.is_state_lem.Statement.{statement}
-use Rattle.state.proofs.is_state_lem.Tie as tie
+use Rattle.state.proofs.is_state.Statement.{statement}
+use Rattle.state.proofs.is_state.Tie as tie
 
 -- the table was not refused
 abbrev start_of : tie.Else-refusal_number-ne0 → tie.Start
@@ -19,7 +19,7 @@ table_passed : (x : tie.Else-refusal_number-ne0) → opening (table_in (start_of
 table_passed x =
     let number = x.before in
     let opened = number.before in
-    passed_at_zero opened.«open».result.answer opened.«open».ensures.0 number.refusal_number.ensures x.if-refusal_number-ne0.false
+    passed_at_zero opened.open-opened.result.answer opened.open-opened.ensures.0 number.refusal_number.ensures x.if-refusal_number-ne0.false
 
 returns : tie.Need-returns-then-state-lt-STATE_SIZE
 returns c = sym (short_is_no_state c.before.before.args.state.now c.if-state-lt-STATE_SIZE.true)
@@ -56,7 +56,7 @@ returns_3 c =
     let number = c.before in
     let opened = number.before in
     let state = opened.before.before.before.before.before.before.args.state.now in
-    let is = number_is opened.«open».result.answer opened.«open».ensures.0 number.refusal_number.ensures in
+    let is = number_is opened.open-opened.result.answer opened.open-opened.ensures.0 number.refusal_number.ensures in
     sym (refused_is_no_state state (both_by_table (table_in state) (bias_in state) is c.if-refusal_number-ne0.true) c.if-refusal_number-ne0.true)
 
 add_open_2 : tie.Need-overflow_add-open-2

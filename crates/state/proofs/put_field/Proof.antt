@@ -1,6 +1,6 @@
 -- `put_field` meets its contract: the head, and right behind it the value.
 use native.Mathlib.Omega.{arith}
-use Rattle.state.proofs.PutLaws.{value_copied}
+use Rattle.state.proofs.PutLaws.{value_lent}
 use borrow.Author.Rules.{rules}
 use Rattle.state.proofs.put_field.Statement.{statement}
 use Rattle.state.proofs.put_field.Tie as tie
@@ -37,7 +37,7 @@ returns c =
     let w = c.before.before in
     let h = w.before.before.before.before in
     let a = h.before.before.before.before.args in
-    value_copied a.out.now h.put_head.new.0 a.value.now a.at _ (omega arith) h.put_head.ensures _ w.copy.ensures.1
+    value_lent a.out.now h.put_head.new.out a.value.now a.at _ (omega arith) h.put_head.ensures _ w.copy_from_slice.ensures.1
 
 pub put_field_spec : {M : Type 1} → statement M
 put_field_spec =

@@ -30,7 +30,7 @@ returns c =
     let w = c.before.before in
     let h = w.before.before.before.before in
     let a = h.before.before.before.before.args in
-    value_put a.out.now h.put_head.new.0 (number_bytes a.numbers.now) a.at _ (omega (arith, length_number_bytes a.numbers.now)) h.put_head.ensures w.put_numbers.ensures
+    value_put a.out.now h.put_head.new.out (number_bytes a.numbers.now) a.at _ (omega (arith, length_number_bytes a.numbers.now)) h.put_head.ensures w.put_numbers.ensures
 
 pub put_number_field_spec : {M : Type 1} → statement M
 put_number_field_spec =

@@ -47,7 +47,7 @@ loop_again c =
     let numbers = a.numbers.now in
     let i = l.loop-i.i in (
       omega arith,
-      w.put_u32.auto.0 ∙ l.loop-i.invariant.1,
+      w.put_u32.auto.out ∙ l.loop-i.invariant.1,
       w.put_u32.ensures
           ∙ ap (λ (b : List ℕ). put b (a.at + 4 * i) (bytes_of numbers i)) l.loop-i.invariant.2
           ∙ put_next numbers a.out.now a.at i (omega arith),

@@ -12,11 +12,6 @@ use borrow.Author.Rules.{rules}
 use Rattle.state.proofs.put_window.Statement.{statement}
 use Rattle.state.proofs.put_window.Tie as tie
 
-abbrev window_of : tie.Start → Window
-window_of start =
-    let a = start.args in
-    record { any = a.any; last = a.last; warm = a.warm.now; cold = a.cold.now; kelvin = a.kelvin.now }
-
 last_bytes_requires : tie.Need-last_bytes-bytes-requires
 last_bytes_requires c κs = search rules
 
@@ -64,18 +59,13 @@ same_length c = search rules
 
 returns : tie.Need-returns
 returns c =
-    let kelvin = c.before.before in
-    let cold = kelvin.before.before.before.before in
-    let warm = cold.before.before.before.before in
-    let last = warm.before.before.before.before in
-    let bytes = last.before.before.before in
-    let start = bytes.before.before.before.before.before in
-    let a = start.args in
-    window_put (window_of start) (record { warm = start.requires.1; cold = start.requires.2; kelvin = start.requires.3 }) a.out.now start.requires.0
-    (last.put_field.ensures ∙ ap (λ (l : List ℕ). put a.out.now window_start (field_bytes (field 0x32 (length l)) l)) bytes.last_bytes-bytes.ensures)
-    warm.put_number_field.ensures
-    cold.put_number_field-2.ensures
-    kelvin.put_number_field-3.ensures
+    let a = c.args in
+    let window : Window = record { any = a.any; last = a.last; warm = a.warm.now; cold = a.cold.now; kelvin = a.kelvin.now } in
+    window_put window (record { warm = c.requires.1; cold = c.requires.2; kelvin = c.requires.3 }) a.out.now c.requires.0
+    (c.put_field.ensures ∙ ap (λ (l : List ℕ). put a.out.now window_start (field_bytes (field 0x32 (length l)) l)) c.last_bytes-bytes.ensures)
+    c.put_number_field.ensures
+    c.put_number_field-2.ensures
+    c.put_number_field-3.ensures
 
 pub put_window_spec : {M : Type 1} → statement M
 put_window_spec =

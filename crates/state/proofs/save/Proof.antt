@@ -17,12 +17,12 @@ use borrow.Author.Rules.{rules}
 use Rattle.state.proofs.save.Statement.{statement}
 use Rattle.state.proofs.save.Tie as tie
 
-shaped : (x : tie.After-kelvin-1) → Shaped x.before.before.before.before.before.before.before.args.window
+shaped : (x : tie.After-kelvin-1) → Shaped x.args.window
 shaped x = record { warm = search rules; cold = search rules; kelvin = search rules }
 
 -- where the window was taken apart, from where its fields are put
 abbrev window_read : tie.After-warm-2-1 → tie.After-kelvin-1
-window_read c = c.before.before.before.before.before.before.before.before.before.before.before.before
+window_read c = c.before.before.before.before.before.before.before.before.before.before.before.before.before.before.before.before
 
 front_bytes_requires : tie.Need-front_bytes-front-requires
 front_bytes_requires c κs = search rules
@@ -50,21 +50,21 @@ put_field_requires_2 c κs =
     let f = c.before.before.before in
     let start = f.before.before.before.before.before.before.before.before.before.before.before in
     let long = accepted_length start.requires.1 in
-    (omega (arith, long), omega (arith, long, f.put_field.auto.0, start.requires.0))
+    (omega (arith, long), omega (arith, long, f.put_field.auto.out, start.requires.0))
 
 slice_aggregate_put_window : tie.Need-slice_bounds-put_window-end
-slice_aggregate_put_window c = sym (shaped (window_read c)).warm-1
+slice_aggregate_put_window c = sym (shaped (window_read c)).warm
 
 slice_aggregate_put_window_2 : tie.Need-slice_bounds-put_window-end-2
-slice_aggregate_put_window_2 c = sym (shaped (window_read c.before)).cold-1
+slice_aggregate_put_window_2 c = sym (shaped (window_read c.before)).cold
 
 slice_aggregate_put_window_3 : tie.Need-slice_bounds-put_window-end-3
-slice_aggregate_put_window_3 c = sym (shaped (window_read c.before.before)).kelvin-1
+slice_aggregate_put_window_3 c = sym (shaped (window_read c.before.before)).kelvin
 
 put_window_requires : tie.Need-put_window-requires
 put_window_requires c κs =
     let long = shaped (window_read c.before.before) in
-    (omega arith, long.warm-1, long.cold-1, long.kelvin-1)
+    (omega arith, long.warm, long.cold, long.kelvin)
 
 sub_put_field_2 : tie.Need-overflow_sub-put_field-2
 sub_put_field_2 c = search rules
@@ -79,7 +79,7 @@ put_field_requires_3 c κs =
     let f = t.before.before.before.before in
     let start = f.before.before.before.before.before.before.before.before.before.before.before in
     let long = accepted_bias_length start.requires.2 in
-    (omega (arith, long), omega (arith, long, w.put_window.auto.0, t.put_field-2.auto.0, f.put_field.auto.0, start.requires.0))
+    (omega (arith, long), omega (arith, long, w.put_window.auto.out, t.put_field-2.auto.out, f.put_field.auto.out, start.requires.0))
 
 sub_put_number_field : tie.Need-overflow_sub-put_number_field
 sub_put_number_field c = search rules
@@ -98,22 +98,14 @@ same_length c = search rules
 
 returns : tie.Need-returns
 returns c =
-    let kept = c.before.before in
-    let b = kept.before.before.before.before.before in
-    let w = b.before.before.before.before in
-    let t = w.before.before.before.before.before.before.before in
-    let f = t.before.before.before.before in
-    let numbers = f.before.before.before in
-    let window = numbers.before in
-    let front = window.before.before.before in
-    let start = front.before.before.before.before in
-    let a = start.args in
-    state_put (calibrator_with a.table.now a.bias.now a.window a.last) (shaped window) (accepted_length start.requires.1) (accepted_bias_length start.requires.2) a.state.now start.requires.0
-    (f.put_field.ensures ∙ ap (λ (l : List ℕ). put a.state.now 0 (field_bytes (field 0x30 (length l)) l)) front.front_Bytes.ensures)
-    t.put_field-2.ensures
-    w.put_window.ensures
-    b.put_field-3.ensures
-    (kept.put_number_field.ensures ∙ ap (λ (l : List ℕ). put b.put_field-3.new.0 (field_start state_layout 7) (field_bytes (field 0x37 (4 * length l)) (number_bytes l))) numbers.numbers_of-numbers.ensures)
+    let a = c.args in
+    let window : tie.After-warm-2-1 = c.before.before.before.before.before.before.before.before.before.before.before.before.before.before.before.before.before.before in
+    state_put (calibrator_with a.table.now a.bias.now a.window a.last) (shaped (window_read window)) (accepted_length c.requires.1) (accepted_bias_length c.requires.2) a.state.now c.requires.0
+    (c.put_field.ensures ∙ ap (λ (l : List ℕ). put a.state.now 0 (field_bytes (field 0x30 (length l)) l)) c.front_bytes-front.ensures)
+    c.put_field-2.ensures
+    c.put_window.ensures
+    c.put_field-3.ensures
+    (c.put_number_field.ensures ∙ ap (λ (l : List ℕ). put c.put_field-3.new.out (field_start state_layout 7) (field_bytes (field 0x37 (4 * length l)) (number_bytes l))) c.numbers_of-numbers.ensures)
 
 pub save_spec : {M : Type 1} → statement M
 save_spec =

@@ -11,7 +11,7 @@ refusal_number_requires : tie.Need-refusal_number-requires
 refusal_number_requires c κs = search rules
 
 returns : tie.Need-returns
-returns c = number_is c.before.«open».result.answer c.before.«open».ensures.0 c.refusal_number.ensures
+returns c = number_is c.before.open-opened.result.answer c.before.open-opened.ensures.0 c.refusal_number.ensures
 
 pub sounder_open_spec : {M : Type 1} → statement M
 sounder_open_spec = tie.close (tie.spec open_requires refusal_number_requires returns)

@@ -46,7 +46,7 @@ enum_known_answer : tie.Need-enum_known-answer
 enum_known_answer c = search rules
 
 cast_t : tie.Need-overflow_cast-t
-cast_t c = cast_fits (reading_units_in_range _ _ _ _ _ _ _ _ (sym c.before.before.before.thermometer-answer.ensures ∙ ap result_of c.before.answer-1.given.1))
+cast_t c = cast_fits (reading_units_in_range _ _ _ _ _ _ _ _ (sym c.thermometer-answer.ensures ∙ ap result_of c.in-Units.is))
 
 enum_told : tie.Need-enum_told-1
 enum_told c = search rules
@@ -59,18 +59,18 @@ enum_told_3 c = search rules
 
 returns : tie.Need-returns-in-Units
 returns c =
-    let e = sym (ap result_of c.before.answer-1.given.1) ∙ c.before.before.before.thermometer-answer.ensures in
-    let left = left_by_lem e c.before.before.before.before.args.t.now in
+    let e = sym (ap result_of c.in-Units.is) ∙ c.thermometer-answer.ensures in
+    let left = left_by_lem e c.args.t.now in
     (left.0, cast_reads_back (reading_units_in_range _ _ _ _ _ _ _ _ (sym e)) ∙ left.1)
 
 returns_2 : tie.Need-returns-in-CoefficientOutside
-returns_2 c = left_by_lem (sym (ap result_of c.enum_told-1.given.1) ∙ c.before.before.thermometer-answer.ensures) c.before.before.before.args.t.now
+returns_2 c = left_by_lem (sym (ap result_of c.in-CoefficientOutside.is) ∙ c.thermometer-answer.ensures) c.args.t.now
 
 returns_3 : tie.Need-returns-in-PamNotAboveOffset
-returns_3 c = left_by_lem (sym (ap result_of c.enum_told-in-PamNotAboveOffset-1.given.1) ∙ c.before.before.thermometer-answer.ensures) c.before.before.before.args.t.now
+returns_3 c = left_by_lem (sym (ap result_of c.in-PamNotAboveOffset.is) ∙ c.thermometer-answer.ensures) c.args.t.now
 
 returns_4 : tie.Need-returns-in-RatioOutside
-returns_4 c = left_by_lem (sym (ap result_of c.enum_told-in-RatioOutside-1.given.1) ∙ c.before.before.thermometer-answer.ensures) c.before.before.before.args.t.now
+returns_4 c = left_by_lem (sym (ap result_of c.in-RatioOutside.is) ∙ c.thermometer-answer.ensures) c.args.t.now
 
 pub sounder_thermometer_spec : {M : Type 1} → statement M
 sounder_thermometer_spec =

@@ -5,7 +5,6 @@ use mathlib.Core.Path.{◌≡◌, refl, ap, ◌∙◌}
 use mathlib.Core.List.{List}
 use mathlib.Core.Bool.{Bool}
 use borrow.Author.Rules.{rules}
-use Rattle.lists.proofs.Put.{copied_whole}
 use Rattle.fields.specs.Fields.{layout_is_right, layout_size}
 use Rattle.table.specs.Settings.{table_layout, settings_of}
 use Rattle.table.specs.Ranges.{values_inside}
@@ -102,7 +101,7 @@ returns_4 c =
     (test_passed (layout_answers l) second.if-not-layout_is_right.false-raw)
     (test_passed v.values_inside.ensures third.if-not-values_inside.false-raw))
     refl
-    (copied_whole bytes _ _ long c.before.copy-2-1.ensures.1)
+    c.copy_from_slice.ensures.1
 
 pub open_spec : {M : Type 1} → statement M
 open_spec =

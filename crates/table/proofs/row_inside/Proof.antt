@@ -7,28 +7,28 @@ enum_told : tie.Need-enum_told-1
 enum_told c = search rules
 
 thermometer_inside_requires : tie.Need-thermometer_inside-requires
-thermometer_inside_requires c κs = (c.before.before.before.requires.0, rw c.enum_told-1.given.1 at c.before.before.before.requires.1)
+thermometer_inside_requires c κs = (c.requires.0, rw c.in-OfThermometers.is at c.requires.1)
 
 enum_told_2 : tie.Need-enum_told-in-OfChannels
 enum_told_2 c = search rules
 
 channel_inside_requires : tie.Need-channel_inside-requires
-channel_inside_requires c κs = (c.before.before.before.requires.0, rw c.enum_told-in-OfChannels-1.given.1 at c.before.before.before.requires.1)
+channel_inside_requires c κs = (c.requires.0, rw c.in-OfChannels.is at c.requires.1)
 
 enum_told_3 : tie.Need-enum_told-in-OfPairs
 enum_told_3 c = search rules
 
 pairs_inside_requires : tie.Need-pairs_inside-requires
-pairs_inside_requires c κs = (c.before.before.before.requires.0, rw c.enum_told-in-OfPairs-1.given.1 at c.before.before.before.requires.1)
+pairs_inside_requires c κs = (c.requires.0, rw c.in-OfPairs.is at c.requires.1)
 
 returns : tie.Need-returns-in-OfThermometers
-returns c = rw c.before.enum_told-1.given.1 c.thermometer_inside.ensures
+returns c = rw c.in-OfThermometers.is c.thermometer_inside.ensures
 
 returns_2 : tie.Need-returns-in-OfChannels
-returns_2 c = rw c.before.enum_told-in-OfChannels-1.given.1 c.channel_inside.ensures
+returns_2 c = rw c.in-OfChannels.is c.channel_inside.ensures
 
 returns_3 : tie.Need-returns-in-OfPairs
-returns_3 c = rw c.before.enum_told-in-OfPairs-1.given.1 c.pairs_inside.ensures
+returns_3 c = rw c.in-OfPairs.is c.pairs_inside.ensures
 
 pub row_inside_spec : {M : Type 1} → statement M
 row_inside_spec =

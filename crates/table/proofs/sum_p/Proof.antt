@@ -32,7 +32,7 @@ returns : tie.Need-returns
 returns c =
     let a = c.before.before.before.before.args in
     c.byte_sum.ensures
-    ∙ ap (sum _) c.before.type_size.ensures
+    ∙ ap (sum _) c.size_of.ensures
     ∙ sum_same _ _ (size_of a.target) (λ k below. ap (λ (p : ℕ). get_or a.table.now p 0) (omega arith))
 
 pub sum_p_spec : {M : Type 1} → statement M

@@ -36,7 +36,7 @@ returns c =
     let rows = sums.before in
     let limits = rows.before.before.before in
     c.all_hold.ensures
-    ∙ rw (limits.before.leasts_inside.ensures, limits.thermometer_limits_inside.ensures, rows.before.before.rows_Inside.ensures, rows.before.rows_inside-2.ensures, rows.rows_inside-3.ensures, sums.sums_inside.ensures)
+    ∙ rw (limits.before.leasts_inside.ensures, limits.thermometer_limits_inside.ensures, rows.before.before.rows_inside.ensures, rows.before.rows_inside-2.ensures, rows.rows_inside-3.ensures, sums.sums_inside.ensures)
 
 pub values_inside_spec : {M : Type 1} → statement M
 values_inside_spec =

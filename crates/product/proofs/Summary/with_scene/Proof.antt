@@ -22,19 +22,19 @@ enum_told_3 c = search rules
 
 returns : tie.Need-returns-in-Kelvin
 unfolding with_scene
-returns c = c.with_temperature.ensures ∙ ap (with_scene c.before.before.before.before.args.self) (sym c.before.before.s-1.given.1)
+returns c = c.with_temperature.ensures ∙ ap (with_scene c.args.self) (sym c.in-Kelvin.is)
 
 returns_2 : tie.Need-returns-in-Flagged
 unfolding with_scene
-returns_2 c = ap (with_scene c.before.before.args.self) (sym c.enum_told-1.given.1)
+returns_2 c = ap (with_scene c.args.self) (sym c.in-Flagged.is)
 
 returns_3 : tie.Need-returns-in-Outside
 unfolding with_scene
-returns_3 c = ap (with_scene c.before.before.args.self) (sym c.enum_told-in-Outside-1.given.1)
+returns_3 c = ap (with_scene c.args.self) (sym c.in-Outside.is)
 
 returns_4 : tie.Need-returns-in-Guard
 unfolding with_scene
-returns_4 c = ap (with_scene c.before.before.args.self) (sym c.enum_told-in-Guard-1.given.1)
+returns_4 c = ap (with_scene c.args.self) (sym c.in-Guard.is)
 
 pub with_scene_spec : {M : Type 1} → statement M
 with_scene_spec =
