@@ -4,7 +4,7 @@
 run: ## builds the listing program and prints the bench scan's line
 	@tools/run
 
-test: ## the gate: proves everything from nothing and runs every check
+test: ## the gate: proves everything and runs every check
 	@tools/test
 
 lib: ## builds the library, static and shared, and prints where it is
@@ -21,7 +21,7 @@ uninstall: ## removes what install installs, with the same PREFIX and DESTDIR
 	@tools/install --remove
 
 clean: ## removes what builds have written and what Python has compiled
-	@rm -rf target compare/target python/*/__pycache__
+	@rm -rf target crates/*/out compare/target python/*/__pycache__
 
 help: ## prints these lines
 	@awk -F ': ## ' '/^[a-z]+: ## / { printf "make %-9s  %s\n", $$1, $$2 }' Makefile

@@ -1,4 +1,4 @@
-//! With the feature `proved`, links the proved functions that `rt staticlib` has built.
+//! With the feature `proved`, links the proved functions that `tools/staticlib` has built.
 
 fn main() {
     println!("cargo:rerun-if-changed=build.rs");

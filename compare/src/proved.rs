@@ -1,4 +1,4 @@
-//! The proved functions, called through the static libraries of the crates `station` and `comparison`,
+//! The proved functions, called through the static libraries of the crates `station_c` and `comparison_c`,
 //! and the proved programs, against this implementation. Nothing checks the declarations below against
 //! the proved source, so they are few.
 
