@@ -17,7 +17,7 @@ use Rattle.table.specs.declared.Opening.{Opening}
 use Rattle.table.specs.declared.Opening.TheVariants.{Accepted, LengthWrong, FieldWrong, ValueOutside}
 use Rattle.calibrator.specs.declared.Calibrator.{Calibrator}
 use Rattle.calibrator.specs.Refusals.{verdict}
-use Rattle.calibrator.specs.Feeding.{Feed, Outcome, delivery, next_channels, verdict_in, step_by, step, Sound}
+use Rattle.calibrator.specs.Feeding.{Feed, Outcome, delivery, next_channels, verdict_in, step_by, Sound}
 use Rattle.lines.specs.Steps.{empty_product, record_fed, output_size}
 use Rattle.programs.specs.declared.Program.{Program}
 use Rattle.programs.specs.declared.Program.TheVariants.{Listing, Calibrate}

@@ -1,5 +1,5 @@
 -- `programs::calibrate` meets its contract, which is what `lines::calibrate_record` says of the calibrator, the line and the product.
-use Rattle.std.proofs.Common.{rules, ℕ, length, ap, sym, ◌∙◌}
+use Rattle.std.proofs.Common.{ℕ, length, ap, sym, ◌∙◌}
 use Rattle.lines.specs.declared.Calibrated.{Calibrated}
 use Rattle.lines.specs.Steps.{record_fed, calibrated_line, calibrated_of}
 use Rattle.programs.specs.declared.Made.{Made}

@@ -1,5 +1,5 @@
 -- `each_record` meets its contract: no turn yet, one more turn, and the last one.
-use Rattle.std.proofs.Common.{rules, arith}
+use Rattle.std.proofs.Common.{arith}
 use Rattle.programs.proofs.RunLaws.{reached_none, reached_one_more}
 use Rattle.programs.proofs.each_record.Goals as goal
 

@@ -1,5 +1,5 @@
 -- `hand_over` meets what `write_to` asks: the line goes to the program's stream, the product to standard output.
-use Rattle.std.proofs.Common.{rules, refl, ◌∙◌}
+use Rattle.std.proofs.Common.{refl, ◌∙◌}
 use mir.Syntax.{w32}
 use mir.ValLaws.{to_z-of_z}
 use Rattle.programs.specs.Steps.{line_due, product_due}

@@ -1,5 +1,5 @@
 -- `programs::list` meets its contract, which is what `lines::list_record` says of the calibrator and the line.
-use Rattle.std.proofs.Common.{rules, ap}
+use Rattle.std.proofs.Common.{ap}
 use Rattle.lines.specs.declared.Listed.{Listed}
 use Rattle.lines.specs.Steps.{listed_of}
 use Rattle.programs.specs.Steps.{line_of, written_product, made_of}

@@ -1,5 +1,5 @@
 -- `refuse` hands over the line of the refused file, and no product.
-use Rattle.std.proofs.Common.{rules, refl}
+use Rattle.std.proofs.Common.{refl}
 use Rattle.table.specs.Opening.{verdict_of}
 use Rattle.lines.specs.Lines.{opening_line}
 use Rattle.programs.specs.Steps.{of_refusal}

@@ -1,5 +1,5 @@
 -- `say_stop` meets what `write_to` asks: the line is the one that `lines::stop_line` made.
-use Rattle.std.proofs.Common.{rules, refl}
+use Rattle.std.proofs.Common.{refl}
 use Rattle.lines.specs.Lines.{stop_line}
 use Rattle.programs.specs.Steps.{stop_due}
 use Rattle.programs.proofs.StepLaws.{front_of_put}

@@ -1,5 +1,5 @@
 -- `step` meets its contract: no bytes are no record, and the bytes of a record's step are handed over.
-use Rattle.std.proofs.Common.{rules, true, ap, ap₂, ◌∙◌, arith}
+use Rattle.std.proofs.Common.{true, ap, ap₂, ◌∙◌, arith}
 use Rattle.calibrator.specs.declared.Calibrator.{Calibrator}
 use Rattle.programs.specs.declared.Next.{Next}
 use Rattle.programs.specs.declared.Made.{Made}

@@ -1,6 +1,6 @@
 -- `with_bias` meets its contract: a bias file that opening accepted is an accepted one, and the run begins with the fresh calibrator under
 -- exactly its bytes. Of a refused one the line is made.
-use Rattle.std.proofs.Common.{rules, ℕ, List, ◌≡◌, ap, sym, subst, ◌∙◌}
+use Rattle.std.proofs.Common.{ℕ, List, ◌≡◌, ap, sym, subst, ◌∙◌}
 use Rattle.lists.specs.Tests.{passes}
 use Rattle.table.specs.Opening.{verdict_of}
 use Rattle.bias.specs.Opening.{bias_opening}

@@ -1,5 +1,4 @@
 -- `with_table` meets what `refuse` asks: an opening that is not accepted is a refusal, whose line is made.
-use Rattle.std.proofs.Common.{rules}
 use Rattle.programs.proofs.StepLaws.{refuses_unless_accepted}
 use Rattle.programs.proofs.with_table.Goals as goal
 

@@ -1,5 +1,5 @@
 -- `write_record` meets its contract, by the program. `listing` leaves the product's buffer as it was.
-use Rattle.std.proofs.Common.{rules, ◌≡◌, refl, sym, ap, ◌∙◌, arith}
+use Rattle.std.proofs.Common.{◌≡◌, refl, sym, ap, ◌∙◌, arith}
 use Rattle.lists.specs.Build.{put}
 use Rattle.programs.specs.declared.Program.{Program}
 use Rattle.programs.specs.declared.Made.{Made}
