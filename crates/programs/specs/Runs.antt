@@ -1,5 +1,5 @@
 -- The run of a program: which calibrator it begins with, by the verdicts on the two files, and that the calibrator after each turn is the one
--- after the records read so far. No contract can say which bytes a call of C has read: it is said that there are such records.
+-- after the records read so far. No contract can say which bytes a call of std has read: it is said that there are such records.
 use Rattle.std.specs.Prelude.{ℕ, ◌<◌, ◌≤◌, ◌≡◌, Bool, ◌⊎◌, List, length, take}
 use Rattle.lists.specs.All.{All}
 use Rattle.lists.specs.Tests.{Verdict, passes, fails}
