@@ -179,7 +179,7 @@ def gap(a, symbol, b):
 
 
 NEGATED = {':≤': ':<', ':<': ':≤'}
-THEOREM = {':≤': 'le-by', ':<': 'lt-by'}
+THEOREM = {':≤': 'le_by', ':<': 'lt_by'}
 
 
 def words(text):

@@ -42,7 +42,7 @@ settings_bytes =
     -- T_low and T_upp at their ends, in two's complement
     ++ u32_bytes (0x1_0000_0000 - 245760)
     ++ u32_bytes 245760
-    -- d_t
+    -- dT
     ++ u32_bytes 100
 
 -- p; R0, alpha, delta, beta

@@ -116,7 +116,7 @@ pub record ReadingEnds : Type 0 where
 
 -- ---- thermometers of a target; T of 0 °C is 1,118,822
 
--- T_low, T_upp (in two's complement) and d_t
+-- T_low, T_upp (in two's complement) and dT
 abbrev pub with_t_low : ℕ → Settings
 with_t_low t = settings_with (2 * ages + 9) (u32_bytes t)
 

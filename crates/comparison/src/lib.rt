@@ -1,4 +1,4 @@
-// The proved functions as C functions, for compare/ to call.
+// What compare/ calls of the proved functions; the crate `comparison_c` exports them.
 
 #![tactic(auto)]
 

@@ -1,4 +1,4 @@
-// The C functions for stations, declared in include/sounder.h.
+// What the C functions for stations do, which include/sounder.h declares and the crate `station_c` exports.
 
 #![tactic(auto)]
 

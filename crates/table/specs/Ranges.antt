@@ -22,7 +22,7 @@ leasts_inside s =
     all_hold (from_to 1 100 s.percent_thermometers ∷ from_to 1 100 (s.percent Warm) ∷ from_to 1 100 (s.percent Cold)
     ∷ from_to 1 (size_of Kav) (s.least Kav) ∷ from_to 1 (size_of Wg) (s.least Wg) ∷ [])
 
--- R_PAM, T_low and T_upp -245,760..245,760 with low not above upp, d_t 0..491,520
+-- R_PAM, T_low and T_upp -245,760..245,760 with low not above upp, dT 0..491,520
 unfoldable pub thermometer_limits_inside : Settings → Bool
 thermometer_limits_inside s =
     all_hold (resistance_inside s.r_pam

@@ -30,7 +30,7 @@ theorem = record {
   demand_three_in_one_call = demand_three_in_one_call;
   demand_three_by_states = demand_three_by_states;
   restarts = restart;
-  without_bias_lem = without_bias_lem;
+  without_bias = without_bias_lem;
   same_scenes = same_scenes;
   scenes_shown = scenes_shown;
   distance_before_bias = distance_before_bias;
@@ -52,7 +52,7 @@ theorem_says t = (
   t.demand_three_in_one_call,
   t.demand_three_by_states,
   t.restarts,
-  t.without_bias_lem,
+  t.without_bias,
   t.same_scenes,
   t.scenes_shown,
   t.distance_before_bias,

@@ -19,7 +19,7 @@ pub record Theorem : Type 0 where
   -- the restart law: a product depends on the records of its window alone
   pub restarts : Restarts
   -- request W1
-  pub without_bias_lem : WithoutBias
+  pub without_bias : WithoutBias
   -- request W3
   pub same_scenes : SameScenes
   pub scenes_shown : ScenesShown
