@@ -40,7 +40,7 @@ pub struct Bias {
 }
 
 // The answer, and beside it the bias file where it is accepted.
-#[derive(Drop)]
+#[derive(Clone, Copy)]
 pub struct Opened {
     pub answer: Opening,
     bias: Bias,

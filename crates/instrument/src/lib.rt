@@ -42,7 +42,7 @@ pub enum Target {
 }
 
 // The receiver shelves.
-#[derive(Drop)]
+#[derive(Clone, Copy)]
 pub enum Shelf {
     KkaShelf,
     VShelf,

@@ -31,14 +31,14 @@ pub enum Stop {
 }
 
 // The calibrator that is handed back, and how many bytes the line has.
-#[derive(Drop)]
+#[derive(Clone, Copy)]
 pub struct Listed {
     pub calibrator: Calibrator,
     pub size: usize,
 }
 
 // The calibrator that is handed back, and how many bytes go to standard output and to standard error.
-#[derive(Drop)]
+#[derive(Clone, Copy)]
 pub struct Calibrated {
     pub calibrator: Calibrator,
     pub output: usize,

@@ -15,7 +15,7 @@ use lastscan::LastScan;
 use scene::{Constants, Scale};
 
 // The count, or none; or why there is no answer.
-#[derive(Drop)]
+#[derive(Clone, Copy)]
 pub enum Behind {
     Count(u16),
     NoCount,

@@ -48,14 +48,14 @@ enum Next {
 }
 
 // How many bytes of a record were read, and what comes after them.
-#[derive(Drop)]
+#[derive(Clone, Copy)]
 struct Got {
     size: usize,
     next: Next,
 }
 
 // The calibrator that is handed back, and how many bytes of the line and of the product are written.
-#[derive(Drop)]
+#[derive(Clone, Copy)]
 struct Made {
     calibrator: Calibrator,
     line: usize,
@@ -63,7 +63,7 @@ struct Made {
 }
 
 // What comes after a record, and the calibrator that is handed back.
-#[derive(Drop)]
+#[derive(Clone, Copy)]
 struct Turned {
     next: Next,
     calibrator: Calibrator,

@@ -80,7 +80,7 @@ pub enum Opening {
 }
 
 // The answer, and beside it the table where it is accepted.
-#[derive(Drop)]
+#[derive(Clone, Copy)]
 pub struct Opened {
     pub answer: Opening,
     table: Table,
