@@ -10,7 +10,8 @@ use lib.ListN.{length, get_or, length-append}
 use borrow.Author.Tests.{eq-eqb}
 use Rattle.lists.proofs.Stands.{StandsAt, stands_itself, stands_at_front, stands_behind, stands_inside}
 use Rattle.fields.specs.Numbers.{u16_at, u32_at, u16_bytes, u32_bytes}
-use Rattle.fields.specs.Fields.{Field, head_size, field_bytes, field_is_right, layout_size, layout_is_right, field_at, value_start, laid_out}
+use Rattle.fields.specs.declared.Field.{Field}
+use Rattle.fields.specs.Fields.{head_size, field_bytes, field_is_right, layout_size, layout_is_right, field_at, value_start, laid_out}
 use Rattle.fields.proofs.NumberLaws.{u16_same, u32_same}
 use Rattle.fields.proofs.LayoutLaws.{right_when_each, field_start}
 

@@ -1,13 +1,10 @@
 -- Document 01, "The table": each field is a one-byte tag, a two-byte length and a value. A layout is the list of the tags and lengths
 -- of the fields that stand one after the other.
 use Rattle.std.specs.Prelude.{ℕ, ◌+◌, List, [], ◌∷◌, ◌++◌, Bool, true, ◌&&◌, cond, eqb, get_or, take, drop}
+use Rattle.fields.specs.declared.Field.{Field}
 use Rattle.fields.specs.Numbers.{u16_at, u16_bytes}
 
 -- a tag and the length of the value
-pub record Field : Type 0 where
-  pub tag : ℕ
-  pub size : ℕ
-
 abbrev pub field : ℕ → ℕ → Field
 field tag size = record { tag = tag; size = size }
 
@@ -26,12 +23,6 @@ field_is_right s at f = eqb (get_or s at 0) f.tag && eqb (u16_at s (at + 1)) f.s
 -- the value of the field that begins at `at`; nothing where its tag or length is wrong
 unfoldable pub field_value : List ℕ → ℕ → Field → List ℕ
 field_value s at f = cond (field_is_right s at f) (take f.size (drop (at + head_size) s)) []
-
--- the layout with these tags and these lengths
-unfoldable pub layout_of : List ℕ → List ℕ → List Field
-layout_of [] sizes = []
-layout_of (tag ∷ tags) [] = []
-layout_of (tag ∷ tags) (size ∷ sizes) = record { tag = tag; size = size } ∷ layout_of tags sizes
 
 -- the bytes that a layout takes
 abbrev pub layout_size : List Field → ℕ

@@ -4,100 +4,83 @@
 
 ghost use Rattle.std.specs.Prelude.{◌≡◌, ◌+◌, ◌*◌, ◌<◌, ◌≤◌, [], length};
 ghost use Rattle.lists.specs.Build.{put};
-ghost use Rattle.fields.specs.Numbers.{u16_at, u32_at, i16_at, i32_at, signed, u16_bytes, u32_bytes};
-ghost use Rattle.fields.specs.Fields.{field_is_right, field_value, head_size, field_bytes, layout_of, layout_size, layout_is_right};
+ghost use Rattle.fields.specs.Numbers.{u16_at, u32_at, i16_at, i32_at, u16_bytes, u32_bytes};
+ghost use Rattle.fields.specs.Fields.{field_is_right, field_value, head_size, field_bytes, layout_size, layout_is_right};
 
 // The bytes of a tag and a length, which stand before the value.
 pub const HEAD: usize = 3;
 
-// ---- numbers
-
-fn pair(high: u8, low: u8) -> u16
-    ensures { result ≡ 256 * high + low }
-{
-    256 * (high as u16) + (low as u16)
+// A tag, and the length of the value behind it.
+#[derive(Clone, Copy, Debug, PartialEq, Eq)]
+pub struct Field {
+    pub tag: u8,
+    pub size: u16,
 }
+
+// ---- numbers. One line for each type, which has its own `from_be_bytes` and `to_be_bytes`: a trait over them would have longer impls.
 
 pub fn u16_at(bytes: &[u8], at: usize) -> u16
     requires { at + 1 < length bytes.now }
     ensures { result ≡ u16_at bytes.now at }
 {
-    pair(bytes[at], bytes[at + 1])
+    u16::from_be_bytes([bytes[at], bytes[at + 1]])
 }
 
 pub fn u32_at(bytes: &[u8], at: usize) -> u32
     requires { at + 3 < length bytes.now }
     ensures { result ≡ u32_at bytes.now at }
 {
-    let high = u16_at(bytes, at);
-    let low = u16_at(bytes, at + 2);
-    65536 * (high as u32) + (low as u32)
-}
-
-// The number whose two's complement n is; `half` is the first n that stands for a number below 0.
-pub fn signed_of(n: u32, half: u32) -> i64
-    requires { n < half + half }
-    ensures { result ≡ signed half n }
-{
-    if n < half {
-        return n as i64;
-    }
-    (n as i64) - 2 * (half as i64)
+    u32::from_be_bytes([bytes[at], bytes[at + 1], bytes[at + 2], bytes[at + 3]])
 }
 
 pub fn i16_at(bytes: &[u8], at: usize) -> i64
     requires { at + 1 < length bytes.now }
     ensures { result ≡ i16_at bytes.now at }
 {
-    signed_of(u16_at(bytes, at) as u32, 0x8000)
+    i64::from(u16_at(bytes, at).cast_signed())
 }
 
 pub fn i32_at(bytes: &[u8], at: usize) -> i64
     requires { at + 3 < length bytes.now }
     ensures { result ≡ i32_at bytes.now at }
 {
-    signed_of(u32_at(bytes, at), 0x8000_0000)
+    i64::from(u32_at(bytes, at).cast_signed())
 }
 
 // ---- fields
 
-// Whether a field with this tag and this length of its value begins at `at`.
-fn field_is_right(bytes: &[u8], at: usize, tag: u8, size: u16) -> bool
+// Whether this field's tag and length begin at `at`.
+fn field_is_right(bytes: &[u8], at: usize, field: Field) -> bool
     requires { at + head_size ≤ length bytes.now }
-    ensures { result ≡ field_is_right bytes.now at (record { tag = tag; size = size }) }
+    ensures { result ≡ field_is_right bytes.now at field }
 {
-    if bytes[at] != tag {
-        return false;
-    }
-    u16_at(bytes, at + 1) == size
+    bytes[at] == field.tag && u16_at(bytes, at + 1) == field.size
 }
 
 // The value of the field that begins at `at`, as a part of `bytes`; the empty part where its tag or its length is wrong.
-pub fn field(bytes: &[u8], at: usize, tag: u8, size: u16) -> &[u8]
-    requires { at + head_size + size ≤ length bytes.now }
-    ensures { result.now ≡ field_value bytes.now at (record { tag = tag; size = size }) }
+pub fn value_at(bytes: &[u8], at: usize, field: Field) -> &[u8]
+    requires { at + head_size + field.size ≤ length bytes.now }
+    ensures { result.now ≡ field_value bytes.now at field }
 {
-    if field_is_right(bytes, at, tag, size) {
-        let start = at + HEAD;
-        let end = start + size as usize;
-        return &bytes[start..end];
+    if !field_is_right(bytes, at, field) {
+        return &[];
     }
-    &bytes[..0]
+    let start = at + HEAD;
+    let end = start + usize::from(field.size);
+    &bytes[start..end]
 }
 
-// Whether every tag and length of the layout with these tags and these lengths is right, from the front of `bytes` on.
-pub fn layout_is_right(bytes: &[u8], tags: &[u8], sizes: &[u16]) -> bool
-    requires { (length tags.now ≡ length sizes.now) × (layout_size (layout_of tags.now sizes.now) ≤ length bytes.now) }
-    ensures { result ≡ layout_is_right bytes.now 0 (layout_of tags.now sizes.now) }
+// Whether every tag and length of the layout is right, from the front of `bytes` on.
+pub fn layout_is_right(bytes: &[u8], layout: &[Field]) -> bool
+    requires { layout_size layout.now ≤ length bytes.now }
+    ensures { result ≡ layout_is_right bytes.now 0 layout.now }
 {
     let mut at = 0;
-    for k in 0..tags.len() {
-        let tag = tags[k];
-        let size = sizes[k];
-        if !field_is_right(bytes, at, tag, size) {
+    for &field in layout {
+        if !field_is_right(bytes, at, field) {
             return false;
         }
-        at = at + HEAD + size as usize;
+        at += HEAD + usize::from(field.size);
     }
     true
 }
@@ -108,25 +91,21 @@ pub fn put_u16(out: &mut [u8], at: usize, n: u16)
     requires { at + 2 ≤ length out.old }
     ensures { out.new ≡ put out.old at (u16_bytes n) }
 {
-    out[at] = (n / 256) as u8;
-    out[at + 1] = (n % 256) as u8;
+    lists::copy(&n.to_be_bytes(), out, at);
 }
 
-pub fn put_u32(out: &mut [u8], at: usize, n: u32)
+pub fn put_u32(out: &mut [u8], at: usize, word: u32)
     requires { at + 4 ≤ length out.old }
-    ensures { out.new ≡ put out.old at (u32_bytes n) }
+    ensures { out.new ≡ put out.old at (u32_bytes word) }
 {
-    out[at] = (n / 16777216) as u8;
-    out[at + 1] = (n / 65536 % 256) as u8;
-    out[at + 2] = (n / 256 % 256) as u8;
-    out[at + 3] = (n % 256) as u8;
+    lists::copy(&word.to_be_bytes(), out, at);
 }
 
 // A tag and a length.
-pub fn put_head(out: &mut [u8], at: usize, tag: u8, size: u16)
+pub fn put_head(out: &mut [u8], at: usize, field: Field)
     requires { at + head_size ≤ length out.old }
-    ensures { out.new ≡ put out.old at (field_bytes (record { tag = tag; size = size }) []) }
+    ensures { out.new ≡ put out.old at (field_bytes field []) }
 {
-    out[at] = tag;
-    put_u16(out, at + 1, size);
+    out[at] = field.tag;
+    put_u16(out, at + 1, field.size);
 }

@@ -6,6 +6,7 @@
 ghost use Rattle.std.specs.Prelude.{◌≡◌};
 ghost use Rattle.instrument.specs.Instrument.{first_of, size_of, target_of, shelf_of, side_place, target_place, shelf_place};
 
+// An index is a plain number whose bound is asked: a type for it would be built at each call and taken apart at once.
 pub const CHANNELS: usize = 22;
 
 // The scenes of a channel in one scan.
@@ -27,22 +28,22 @@ const FIRST_W: usize = 15;
 
 const FIRST_G: usize = 16;
 
-// Warm counts or cold counts.
-#[derive(Clone, Copy)]
+// Warm counts or cold counts. Where both have a value, warm stands before cold.
+#[derive(Clone, Copy, Debug, PartialEq, Eq)]
 pub enum Side {
     Warm,
     Cold,
 }
 
-// The warm targets.
-#[derive(Clone, Copy)]
+// The warm targets, in the order of their values.
+#[derive(Clone, Copy, Debug, PartialEq, Eq)]
 pub enum Target {
     Kav,
     Wg,
 }
 
-// The receiver shelves.
-#[derive(Clone, Copy)]
+// The receiver shelves, in the order of their values.
+#[derive(Clone, Copy, Debug, PartialEq, Eq)]
 pub enum Shelf {
     KkaShelf,
     VShelf,
@@ -94,32 +95,21 @@ pub fn shelf_of(c: usize) -> Shelf
     Shelf::GShelf
 }
 
-// Where both have a value, warm stands before cold, and KAV before WG; the shelves stand in the order KKA, V, W, G.
+// Where warm and cold, the two targets or the four shelves have a value each, the place of one is its discriminant.
 pub fn side_place(side: Side) -> usize
     ensures { result ≡ side_place side }
 {
-    match side {
-        Side::Warm => 0,
-        Side::Cold => 1,
-    }
+    side as usize
 }
 
 pub fn target_place(target: Target) -> usize
     ensures { result ≡ target_place target }
 {
-    match target {
-        Target::Kav => 0,
-        Target::Wg => 1,
-    }
+    target as usize
 }
 
 pub fn shelf_place(shelf: Shelf) -> usize
     ensures { result ≡ shelf_place shelf }
 {
-    match shelf {
-        Shelf::KkaShelf => 0,
-        Shelf::VShelf => 1,
-        Shelf::WShelf => 2,
-        Shelf::GShelf => 3,
-    }
+    shelf as usize
 }

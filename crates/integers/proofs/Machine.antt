@@ -1,13 +1,12 @@
 -- Bridges to the machine's i64, and to every signed width where that costs nothing. The check writes a signed value x as its bits,
 -- `of_z w64 x`, and reads bits n as `to_z w64 n`.
 use mathlib.Core.Path.{◌≡◌}
-use mathlib.Core.Bool.{Bool}
-use Prim.Native.Nat.{ℕ, zero, suc, ◌≤◌, ◌<◌, ◌/◌, ◌^◌}
-use native.Mathlib.Nat.{lt_of_le_of_lt, div-le_self}
+use Prim.Native.Nat.{ℕ, ◌≤◌, ◌<◌, ◌^◌}
+use native.Mathlib.Nat.{lt_of_le_of_lt}
 use native.Mathlib.Omega.{arith}
-use lib.IntN.{ℤ, pos, negsuc, neg_ℤ, nat_abs}
+use lib.IntN.{ℤ, pos, negsuc, nat_abs}
 use lib.Dec.{T, leb→le, le→leb}
-use lib.Signed.{◌≤ℤ◌, ◌<ℤ◌, lt_z, non_neg, mag, mag_rem, mag_shr, quot_z, rem_z}
+use lib.Signed.{◌≤ℤ◌, non_neg, mag, mag_shr}
 use mir.Syntax.{Width, w64}
 use mir.Val.{hbits, Fits, SFits, to_z, of_z}
 use mir.ValLaws.{to_z-of_z, to_z_pos}
@@ -56,31 +55,7 @@ pub unsigned_fits : {x : ℤ} → pos 0 ≤ℤ x → SFits w64 x → T (non_neg 
 unsigned_fits {x = pos n} h f = (tt, record { fits = omega (arith, f.sfits) })
 unsigned_fits {x = negsuc n} h f = absurd h.le
 
--- ---- division
-pub above_zero_bits : {b : ℤ} → pos 0 <ℤ b → 0 < of_z w64 b
-above_zero_bits {b = pos n} h = lib.Dec.ltb→lt 0 n h.lt
-above_zero_bits {b = negsuc n} h = absurd h.lt
-
-negated_size : (k n : ℕ) → k ≤ suc n → mag (neg_ℤ (pos k)) ≤ n
-negated_size zero n h = omega arith
-negated_size (suc k) n h = omega arith
-
-quotient_size : (a b : ℤ) → pos 0 <ℤ b → mag (quot_z a b) ≤ mag a
-quotient_size (pos n) (pos m) h = div-le_self n m
-quotient_size (negsuc n) (pos m) h = negated_size (suc n / m) n (div-le_self (suc n) m)
-quotient_size a (negsuc m) h = absurd h.lt
-
-pub quotient_fits : {a b : ℤ} → SFits w64 a → pos 0 <ℤ b → SFits w64 (quot_z a b)
-quotient_fits {a} {b} f h = record { sfits = lt_of_le_of_lt (quotient_size a b h) f.sfits }
-
-pub remainder_fits : {a : ℤ} (b : ℤ) → SFits w64 a → SFits w64 (rem_z a b)
-remainder_fits {a} b f = record { sfits = lt_of_le_of_lt (mag_rem a b) f.sfits }
-
--- what the machine's test of a remainder says of the remainder
-pub remainder_test : {a b : ℤ} → SFits w64 a → SFits w64 b → (t : Bool)
-    → lt_z (to_z w64 (of_z w64 (rem_z (to_z w64 (of_z w64 a)) (to_z w64 (of_z w64 b))))) (pos 0) ≡ t → lt_z (rem_z a b) (pos 0) ≡ t
-remainder_test {a} {b} f g t h = rw (reads_back f, reads_back g, reads_back (remainder_fits b f)) at h
-
+-- ---- the floor
 floor_size : (a b : ℤ) → mag (floor a b) ≤ mag a
 unfolding floor
 floor_size (pos n) b = mag_shr (pos n) (nat_abs b)

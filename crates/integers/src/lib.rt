@@ -6,16 +6,12 @@ ghost use Rattle.std.specs.Prelude.{◌≡◌, ◌<◌, ◌≤◌, pos, ◌-ℤ�
 ghost use Rattle.integers.specs.Rounding.{floor, is_even, r};
 ghost use Rattle.integers.specs.Bounds.{Bounded};
 
-// The floor of a / b.
+// The floor of a / b. That b is above 0 is asked at each call: a type for it would be built and taken apart at once.
 pub fn floor_div(a: i64, b: i64) -> i64
     requires { pos 0 <ℤ b }
     ensures { result ≡ floor a b }
 {
-    let quotient = a / b;
-    if a % b < 0 {
-        return quotient - 1;
-    }
-    quotient
+    a.div_euclid(b)
 }
 
 // What the floor of a / b leaves of a: from 0 to b - 1.
@@ -23,11 +19,7 @@ fn remainder(a: i64, b: i64) -> i64
     requires { pos 0 <ℤ b }
     ensures { result ≡ a -ℤ b *ℤ floor a b }
 {
-    let rest = a % b;
-    if rest < 0 {
-        return rest + b;
-    }
-    rest
+    a.rem_euclid(b)
 }
 
 fn is_even(n: i64) -> bool

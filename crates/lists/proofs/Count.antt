@@ -1,5 +1,4 @@
--- Laws of `count`: one test more, its bound, that it never falls, so that a count may end once it is high enough, and the count where
--- the first tests hold and the others do not.
+-- Laws of `count`: one test more, its bound, that it never falls, and the count where the first tests hold and the others do not.
 use Prim.Native.Nat.{ℕ, zero, suc, ◌+◌, ◌<◌, ◌≤◌}
 use native.Mathlib.Decide.{dec_le, le_ind}
 use native.Mathlib.Nat.{add-zero, le_refl}
@@ -7,8 +6,6 @@ use native.Mathlib.Numerals.{add-one}
 use native.Mathlib.Omega.{arith}
 use mathlib.Core.Path.{◌≡◌, refl, ap₂}
 use mathlib.Core.Bool.{Bool, true, false, cond}
-use lib.Dec.{ltb}
-use borrow.Author.Tests.{le-ltb}
 use Rattle.lists.specs.Count.{count}
 
 at_most_one : (b : Bool) → cond b 1 0 ≤ 1
@@ -32,10 +29,6 @@ module _ (holds : ℕ → Bool) where
   pub count_rises : (a b : ℕ) → a ≤ b → count holds a ≤ count holds b
   unfolding count
   count_rises a b order = le_ind (λ (n : ℕ). count holds a ≤ count holds n) (le_refl _) (λ n above least. omega arith) b order
-
-  -- more tests cannot take back what a count has reached
-  pub count_reached : (m a b : ℕ) → m ≤ count holds a → a ≤ b → ltb (count holds b) m ≡ false
-  count_reached m a b reached order = le-ltb (count holds b) m (omega (arith, count_rises a b order))
 
   pub count_of_first : (m n : ℕ) → m ≤ n → ((i : ℕ) → i < m → holds i ≡ true) → ((i : ℕ) → m ≤ i → i < n → holds i ≡ false)
       → count holds n ≡ m

@@ -56,11 +56,6 @@ unfolding every
 every_when_each holds zero each = refl
 every_when_each holds (suc n) each = ap₂ ◌&&◌ (every_when_each holds n (λ i below. each i (omega arith))) (each n (omega arith))
 
-pub every_same : (holds also : ℕ → Bool) (n : ℕ) → ((i : ℕ) → i < n → holds i ≡ also i) → every holds n ≡ every also n
-unfolding every
-every_same holds also zero e = refl
-every_same holds also (suc n) e = ap₂ ◌&&◌ (every_same holds also n (λ i h. e i (omega arith))) (e n (omega arith))
-
 -- all tests of a list hold, so each of them does
 pub each_of_all : (tests : List Bool) → all_hold tests ≡ true → (i : ℕ) → get_or tests i true ≡ true
 each_of_all [] h i = refl

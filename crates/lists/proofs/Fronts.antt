@@ -1,9 +1,8 @@
 -- A buffer that is written from its front on: each value goes right behind what stands there already.
-use Prim.Native.Nat.{ℕ, ◌+◌, ◌-◌, ◌≤◌}
-use native.Mathlib.Omega.{arith}
+use Prim.Native.Nat.{ℕ, ◌+◌, ◌-◌}
 use mathlib.Core.Path.{◌≡◌, refl, ap, ap₂, ◌∙◌}
 use mathlib.Core.List.{List, [], ◌++◌}
-use lib.ListN.{length, take, drop, length-append, length-drop}
+use lib.ListN.{length, take, drop, length-append}
 use Rattle.lists.specs.Build.{put}
 use Rattle.lists.proofs.Put.{put_behind, lent_part_is_put}
 
@@ -17,13 +16,6 @@ module _ {A : Type 0} where
   front_none b = record { long = refl; same = refl }
 
   module _ {b front whole : List A} {n : ℕ} (fronted : Fronted b front n whole) where
-    pub length_fronted : n ≤ length b → length whole ≡ length b
-    length_fronted inside =
-        ap length fronted.same
-        ∙ length-append front (drop n b)
-        ∙ ap₂ ◌+◌ fronted.long (length-drop n b)
-        ∙ omega arith
-
     pub front_and_put : (v : List A) {k : ℕ} {next : List A} → length v ≡ k → next ≡ put whole n v → Fronted b (front ++ v) (n + k) next
     front_and_put v long is = record {
       long = length-append front v ∙ ap₂ ◌+◌ fronted.long long;

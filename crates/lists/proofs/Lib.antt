@@ -1,4 +1,3 @@
-pub mod Loops
 pub mod Tabulate
 pub mod Elements
 pub mod Put
@@ -10,3 +9,5 @@ pub mod Every
 pub mod Sum
 pub mod Tests
 pub mod All
+pub mod Chains
+pub mod Mapped

@@ -3,9 +3,9 @@ use Prim.Native.Nat.{ℕ, ◌+◌, ◌-◌, ◌<◌, ◌≤◌}
 use native.Mathlib.Nat.{add_assoc, add-sub_cancel_left, le_refl}
 use native.Mathlib.Omega.{arith}
 use mathlib.Core.Path.{◌≡◌, refl, sym, ap, ◌∙◌}
-use mathlib.Core.List.{List, [], ◌∷◌, ◌++◌, append_assoc, append-nil}
-use lib.ListN.{length, get_or, set, take, drop, length-append, length-take, length-drop, drop_of_length-le}
-use lib.Seq.{take_all, sets, sets-eq, length-take-le, take_at, drop_at, take-append-le, take-take, drop-append-add, drop-drop, take-add, get_or-take, get_or-drop}
+use mathlib.Core.List.{List, [], ◌++◌, append_assoc}
+use lib.ListN.{length, get_or, take, drop, length-append, length-take, length-drop}
+use lib.Seq.{sets-eq, length-take-le, take_at, drop_at, take-append-le, take-take, drop-append-add, drop-drop, take-add, get_or-take, get_or-drop}
 use Rattle.lists.specs.Build.{put}
 
 -- ---- what a put leaves and what it holds
@@ -72,24 +72,6 @@ module _ {A : Type 0} (b v : List A) (at : ℕ) where
       ∙ get_or-drop end b (i - end) d
       ∙ ap (λ (k : ℕ). get_or b k d) (sym place)
 
--- ---- stores in a row
-
--- stores of the values at `at + n`, `at + n + 1` and so on; on values that are written out it computes to the stores that code makes
-abbrev pub stored : {A : Type 0} → List A → ℕ → ℕ → List A → List A
-stored l at n [] = l
-stored l at n (a ∷ vs) = stored (set l (at + n) a) at (n + 1) vs
-
-stored_are_sets : {A : Type 0} (l : List A) (at n : ℕ) (vs : List A) → stored l at n vs ≡ sets l (at + n) vs
-stored_are_sets l at n [] = refl
-stored_are_sets l at n (a ∷ vs) =
-    stored_are_sets (set l (at + n) a) at (n + 1) vs ∙ ap (λ (k : ℕ). sets (set l (at + n) a) k vs) (omega arith)
-
--- as `out[at] = a; out[at + 1] = b; out[at + 2] = c;`
-pub stores_are_put : {A : Type 0} (l : List A) (at : ℕ) (a : A) (vs : List A) → at + length (a ∷ vs) ≤ length l
-    → stored (set l at a) at 1 vs ≡ put l at (a ∷ vs)
-stores_are_put l at a vs fits =
-    stored_are_sets (set l at a) at 1 vs ∙ ap (λ (k : ℕ). sets (set l at a) k vs) (omega arith) ∙ sets-eq (a ∷ vs) l at fits
-
 module _ {A : Type 0} where
   -- ---- puts in a row
 
@@ -120,14 +102,6 @@ module _ {A : Type 0} where
   lent_part_is_put xs ys a e end =
       let long : e - a ≡ length ys = omega arith in
       rw long (simp (append_assoc, drop-drop))
-
-  -- ---- copies
-
-  -- a list that is copied over one as long
-  pub copied_whole : (src dst out : List A) → length src ≡ length dst → out ≡ take (length src) src ++ drop (length src) dst → out ≡ src
-  copied_whole src dst out long copied =
-      let room : length dst ≤ length src = omega arith in
-      copied ∙ rw (take_all (length src) src (le_refl (length src)), drop_of_length-le dst room) (append-nil src)
 
   -- nothing was put yet
   pub put_nothing : (b : List A) (at : ℕ) → at ≤ length b → b ≡ put b at []

@@ -1,5 +1,5 @@
 -- Sums of a row of numbers: one more, the same rule, term by term.
-use Prim.Native.Nat.{ℕ, zero, suc, ◌+◌, ◌*◌, ◌≤◌, ◌<◌}
+use Prim.Native.Nat.{ℕ, zero, suc, ◌+◌, ◌≤◌, ◌<◌}
 use native.Mathlib.Decide.{le_ind}
 use native.Mathlib.Nat.{le_refl}
 use native.Mathlib.Numerals.{add-one}
@@ -24,12 +24,6 @@ pub sum_at_most : (f g : ℕ → ℕ) (n : ℕ) → ((i : ℕ) → i < n → f i
 unfolding sum
 sum_at_most f g zero e = omega arith
 sum_at_most f g (suc n) e = omega (arith, sum_at_most f g n (λ i h. e i (omega arith)), e n (omega arith))
-
--- every term at most m
-pub sum_bounded : (f : ℕ → ℕ) (m n : ℕ) → ((i : ℕ) → i < n → f i ≤ m) → sum f n ≤ n * m
-unfolding sum
-sum_bounded f m zero e = omega arith
-sum_bounded f m (suc n) e = omega (arith, sum_bounded f m n (λ i h. e i (omega arith)), e n (omega arith))
 
 pub sum_rises : (f : ℕ → ℕ) (a b : ℕ) → a ≤ b → sum f a ≤ sum f b
 unfolding sum

@@ -5,12 +5,12 @@ use native.Mathlib.Nat.{mul-one, mul_assoc, lt_of_lt_of_le, mul_right_comm, mul-
 use native.Mathlib.Omega.{arith}
 use mathlib.Core.Path.{◌≡◌, refl, sym, ap, ◌∙◌, subst}
 use mathlib.Core.Bool.{Bool, true, false, not, cond, false≢true}
-use lib.Dec.{T, ltb, le→leb, lit<, lit≤}
+use lib.Dec.{T, ltb, lit<, lit≤}
 use borrow.Author.Tests.{lt-ltb, le-ltb, ltb-true, ltb-false}
 use lib.IntN.{ℤ, pos, negsuc, nat_abs}
 use lib.Signed.{lt_z_yes}
 use lib.Pow.{shl_lt}
-use lib.Ieee.{Float, Format, nan, inf, fin, binary32, round, units as roundedUnits, odd, low, emax, prec, size, nearest, mul, div, of_int, of_bits, to_bits, is_nan, in_float, fits, up, down, lt, below}
+use lib.Ieee.{Float, Format, nan, inf, fin, binary32, round, units as roundedUnits, odd, low, emax, prec, size, nearest, mul, div, of_int, of_bits, to_bits, is_nan, fits, up, down, lt, below}
 use lib.Ieee.Fits.{round-fits, down_pos}
 use lib.Ieee.Bits.{of_bits-to_bits}
 use lib.Ieee.Exact.{HasValue, round_exact}
@@ -28,10 +28,6 @@ use Rattle.scene.specs.Scene.{kelvin, value, bits, units_of, numerator, scene_of
 -- ---- as the code forms it
 abbrev unit : Float
 unit = fin false 1 (negsuc 11)
-
-pub in_float_lem : (t : ℕ) → t ≤ 16777215 → T (in_float binary32 (pos t))
-unfolding in_float
-in_float_lem t h = le→leb t (2 ^ 24) (omega arith)
 
 module _ (t : ℕ) (low : 1 ≤ t) (high : t ≤ 16777215) where
   below_2^24 : t < 2 ^ 24

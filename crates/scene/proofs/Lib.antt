@@ -7,5 +7,6 @@ pub mod Distance
 pub mod BiasRange
 pub mod BiasDistance
 pub mod Equations
+pub mod Channels
 mod Bracket
 mod Numerator

@@ -2,27 +2,28 @@
 -- negative and 4N is at most 5D, X is within 81,920. The greatest signed number is N(Tw - Tc), below 10^17, so each fits.
 use mathlib.Core.Path.{◌≡◌, ap, ◌∙◌}
 use mathlib.Core.List.{[], ◌∷◌}
-use Prim.Native.Nat.{ℕ, ◌≤◌}
+use Prim.Native.Nat.{ℕ, ◌-◌, ◌*◌, ◌/◌, ◌≤◌}
 use lib.Dec.{lit<}
-use lib.IntN.{ℤ, pos, ◌+ℤ◌, ◌-ℤ◌, ◌*ℤ◌}
+use lib.IntN.{ℤ, pos, nat_abs, ◌+ℤ◌, ◌-ℤ◌, ◌*ℤ◌}
 use lib.Signed.{◌≤ℤ◌, ◌<ℤ◌, lt_z_yes}
 use mir.Syntax.{w64}
 use mir.Val.{SFits, to_z, of_z}
-use Rattle.integers.specs.Rounding.{r}
+use Rattle.integers.specs.Rounding.{floor, r}
 use Rattle.integers.specs.Bounds.{Bounded}
 use Rattle.integers.proofs.Ring.{◌:+◌, ◌:-◌, ◌:*◌, opp, ring, #, v0, v1, v2, v3}
 use Rattle.integers.proofs.Certificate.{◌:≤◌, ◌:<◌, hyp, nat, ◌⊕◌, ◌⊗◌, le_by}
 use Rattle.integers.proofs.Bounds.{bounded_sum, bounded_difference, bounded_product, bounded_not_negative, natural_bounded, number_bounded}
-use Rattle.integers.proofs.Machine.{bounded_fits, reads_back}
+use Rattle.integers.proofs.Machine.{bounded_fits, reads_back, floor_fits}
 use Rattle.integers.proofs.Order.{below_at_most, product_not_negative}
 use Rattle.integers.proofs.Naturals.{natural_not_negative}
 use Rattle.integers.proofs.Nearest.{r_bounded}
 use Rattle.scene.specs.declared.Constants.{Constants}
 use Rattle.scene.specs.declared.Scale.{Scale}
+use Rattle.scene.specs.declared.Curve.{Curve}
 use Rattle.scene.specs.Temperature.{X}
 use Rattle.scene.specs.Scene.{numerator}
 use Rattle.scene.specs.Ranges.{ConstantsRange}
-use Rattle.scene.specs.Steps.{scale_of, bend_of}
+use Rattle.scene.specs.Steps.{bend_of}
 
 -- ---- the bend
 module _ {x curve : ℤ} (h : Bounded x (pos 81920)) (k : Bounded curve (pos 32768)) where
@@ -117,17 +118,6 @@ module _ {k : Constants} (h : ConstantsRange k) where
   pub twice_d_fits : SFits w64 (pos 2 *ℤ k.d)
   twice_d_fits = bounded_fits (bounded_product (number_bounded 2) d_bounded) (lit< tt)
 
-  -- ---- what the scale lends to a scene
-  module _ {scale : Scale} (e : scale ≡ scale_of k) where
-    pub curve_reads_back : to_z w64 (of_z w64 scale.curve) ≡ pos 4 *ℤ k.tnl
-    curve_reads_back = ap (λ (s : Scale). to_z w64 (of_z w64 s.curve)) e ∙ reads_back four_tnl_fits
-
-    pub start_reads_back : to_z w64 (of_z w64 scale.start) ≡ k.tc -ℤ pos 1048576
-    start_reads_back = ap (λ (s : Scale). to_z w64 (of_z w64 s.start)) e ∙ reads_back start_fits
-
-    pub twice_reads_back : to_z w64 (of_z w64 scale.twice) ≡ pos 2 *ℤ k.d
-    twice_reads_back = ap (λ (s : Scale). to_z w64 (of_z w64 s.twice)) e ∙ reads_back twice_d_fits
-
   pub slope_bounded : Bounded k.slope (pos 780300)
   slope_bounded = bounded_not_negative h.slope_low h.slope_high
 
@@ -159,9 +149,6 @@ module _ {k : Constants} (h : ConstantsRange k) where
     pub n_bounded : Bounded n (pos 63921200625)
     n_bounded = bounded_not_negative low (le_by (n ∷ k.d ∷ []) ((# 4 :* v0 :≤ # 5 :* v1) ∷ (v1 :≤ # 51136960500) ∷ []) v0 (# 63921200625) (nat 4 ⊗ hyp 0 ⊕ hyp 1 ⊕ nat 5 ⊗ hyp 2) tt high h.d_high)
 
-    pub n_fits : SFits w64 n
-    n_fits = bounded_fits n_bounded (lit< tt)
-
     pub scene_range : SceneRange k.tc k.rise k.tnl k.d n
     scene_range = record {
       tc_low = h.tc_low;
@@ -182,6 +169,26 @@ module _ {k : Constants} (h : ConstantsRange k) where
 
     pub linear_bounded : Bounded (r (n *ℤ k.rise) k.d) (pos 1696890)
     linear_bounded = scene_linear_bounded scene_range
+
+-- ---- what its scale lends to a scene
+module _ (s : Curve) where
+  pub inverse_is : s.scale.inverse ≡ 9223372036854775808 / nat_abs s.constants.d
+  inverse_is = ap (λ (x : Scale). x.inverse) s.formed
+
+  pub edge_is : s.scale.edge ≡ 4294967294 - 33 * nat_abs s.constants.rise
+  edge_is = ap (λ (x : Scale). x.edge) s.formed
+
+  pub top_reads_back : to_z w64 (of_z w64 s.scale.top) ≡ floor (pos 5 *ℤ s.constants.d) (pos 4)
+  top_reads_back = ap (λ (x : Scale). to_z w64 (of_z w64 x.top)) s.formed ∙ reads_back (floor_fits (pos 4) (bounded_fits (five_d_bounded s.range) (lit< tt)))
+
+  pub curve_reads_back : to_z w64 (of_z w64 s.scale.curve) ≡ pos 4 *ℤ s.constants.tnl
+  curve_reads_back = ap (λ (x : Scale). to_z w64 (of_z w64 x.curve)) s.formed ∙ reads_back (four_tnl_fits s.range)
+
+  pub start_reads_back : to_z w64 (of_z w64 s.scale.start) ≡ s.constants.tc -ℤ pos 1048576
+  start_reads_back = ap (λ (x : Scale). to_z w64 (of_z w64 x.start)) s.formed ∙ reads_back (start_fits s.range)
+
+  pub twice_reads_back : to_z w64 (of_z w64 s.scale.twice) ≡ pos 2 *ℤ s.constants.d
+  twice_reads_back = ap (λ (x : Scale). to_z w64 (of_z w64 x.twice)) s.formed ∙ reads_back (twice_d_fits s.range)
 
 -- ---- T of X and the linear part, from the start
 module _ {start curve x linear : ℤ} (of-start : Bounded start (pos 1037410)) (of-curve : Bounded curve (pos 32768)) (of_x : Bounded x (pos 81920)) (of_linear : Bounded linear (pos 1696890)) where

@@ -47,6 +47,6 @@ scene_of deliver k count =
 abbrev pub unbiased : ℤ → ℤ
 unbiased t = t
 
--- a flagged channel has no constants; nothing reads these
+-- past the last channel stand these; nothing reads them
 abbrev pub no_constants : Constants
 no_constants = record { tc = pos 0; rise = pos 0; tnl = pos 0; d = pos 0; slope = pos 0; base = pos 0 }

@@ -106,30 +106,35 @@ module _ {t : ℤ} (range : InRange t) where
   pub q_fits : SFits w64 (q t)
   q_fits = fits (q_bounded range) tt
 
-  pub square_fits : SFits w64 (t *ℤ t)
-  square_fits = fits (square_bounded range) tt
-
-  pub yw_fits : SFits w64 (y t *ℤ w t)
-  yw_fits = fits (yw_bounded range) tt
-
-  pub 256t_fits : SFits w64 (pos 256 *ℤ t)
-  256t_fits = fits (256t_bounded range) tt
-
   pub delta_q_fits : {delta : ℕ} → delta ≤ 2000000 → SFits w64 (pos delta *ℤ q t)
   delta_q_fits delta_high = fits (delta_q_bounded range delta_high) tt
 
-  pub beta_h_fits : {beta : ℕ} → beta ≤ 500000 → SFits w64 (pos beta *ℤ h t)
-  beta_h_fits beta_high = fits (beta_h_bounded range beta_high) tt
+-- the products on the way to s2
+pub record QuarticFits (beta : ℕ) (t : ℤ) : Type 0 where
+  pub square : SFits w64 (t *ℤ t)
+  pub yw : SFits w64 (y t *ℤ w t)
+  pub by_beta : SFits w64 (pos beta *ℤ h t)
 
-  module _ {alpha delta beta : ℕ} (admissible : Admissible alpha delta beta) where
-    pub 256t_less_s1_fits : SFits w64 (pos 256 *ℤ t -ℤ s1 delta t)
-    256t_less_s1_fits = fits (256t_less_s1_bounded range admissible) tt
+pub quartic_fits : {beta : ℕ} {t : ℤ} → InRange t → beta ≤ 500000 → QuarticFits beta t
+quartic_fits range beta_high = record {
+  square = fits (square_bounded range) tt;
+  yw = fits (yw_bounded range) tt;
+  by_beta = fits (beta_h_bounded range beta_high) tt;
+}
 
-    pub bracket_fits : SFits w64 (bracket delta beta t)
-    bracket_fits = fits (bracket_bounded range admissible) tt
+-- the numbers on the way to F, and F
+pub record RatioFits (alpha delta beta : ℕ) (t : ℤ) : Type 0 where
+  pub times_256 : SFits w64 (pos 256 *ℤ t)
+  pub less_s1 : SFits w64 (pos 256 *ℤ t -ℤ s1 delta t)
+  pub less_s2 : SFits w64 (bracket delta beta t)
+  pub by_alpha : SFits w64 (pos alpha *ℤ bracket delta beta t)
+  pub ratio : SFits w64 (F alpha delta beta t)
 
-    pub alpha_bracket_fits : SFits w64 (pos alpha *ℤ bracket delta beta t)
-    alpha_bracket_fits = fits (alpha_bracket_bounded range admissible) tt
-
-    pub F_fits : SFits w64 (F alpha delta beta t)
-    F_fits = fits (F_bounded range admissible) tt
+pub ratio_fits : {alpha delta beta : ℕ} {t : ℤ} → InRange t → Admissible alpha delta beta → RatioFits alpha delta beta t
+ratio_fits range admissible = record {
+  times_256 = fits (256t_bounded range) tt;
+  less_s1 = fits (256t_less_s1_bounded range admissible) tt;
+  less_s2 = fits (bracket_bounded range admissible) tt;
+  by_alpha = fits (alpha_bracket_bounded range admissible) tt;
+  ratio = fits (F_bounded range admissible) tt;
+}

@@ -2,9 +2,9 @@
 use mathlib.Core.Path.{◌≡◌}
 use Prim.Native.Nat.{ℕ, ◌+◌, ◌-◌, ◌≤◌}
 use native.Mathlib.Omega.{arith}
-use lib.IntN.{ℤ, pos, ◌+ℤ◌}
+use lib.IntN.{ℤ, pos}
 use lib.Signed.{◌≤ℤ◌}
-use Rattle.integers.proofs.Linear.{plus, minus, order, parts_equal, sum_parts, difference_parts}
+use Rattle.integers.proofs.Linear.{plus, minus, order, parts_equal, difference_parts}
 use Rattle.thermometer.specs.Rule.{units_at_place, InRange}
 
 pub place_in_range : {k : ℕ} → k ≤ 491520 → InRange (units_at_place k)
@@ -21,9 +21,6 @@ place_of_lem {t} range = parts_equal (units_at_place (place_of t)) t (omega (ari
 
 pub place_at_most : {t : ℤ} → InRange t → place_of t ≤ 491520
 place_at_most {t} range = omega (arith, order)
-
-pub place_counted : {t : ℤ} → InRange t → t +ℤ pos 245760 ≡ pos (place_of t)
-place_counted {t} range = parts_equal (t +ℤ pos 245760) (pos (place_of t)) (omega (arith, order, sum_parts t (pos 245760)))
 
 pub place_before_last : (k : ℕ) → units_at_place k ≤ℤ pos 245759 → k + 1 ≤ 491520
 place_before_last k h = omega (arith, order, difference_parts (pos k) (pos 245760))

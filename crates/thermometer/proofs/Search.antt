@@ -23,8 +23,9 @@ use Rattle.integers.proofs.Floor.{floor_bounded}
 use Rattle.thermometer.specs.Rule.{one, F, lowest_units, units_at_place, InRange}
 use Rattle.thermometer.specs.Ranges.{Admissible}
 use Rattle.thermometer.specs.Steps.{held_between, on_line_through_zero, on_chord, nearby_units, reached_at, past_at, AllReachedBefore, Encloses}
-use Rattle.thermometer.proofs.Bounds.{fits, t_bounded, F_bounded}
+use Rattle.thermometer.proofs.Bounds.{fits, t_bounded, t_fits, F_bounded}
 use Rattle.thermometer.proofs.Rises.{rises_strictly}
+use Rattle.thermometer.proofs.Places.{place_before_last}
 use Rattle.thermometer.proofs.Answer.{reached_before}
 
 -- ---- where the guess is
@@ -73,9 +74,12 @@ module _ (alpha delta beta : ℕ) (m : ℤ) where
   last_or true h = le_z_yes tt
   last_or false h = h
 
-  pub nearby_before_highest : nearby_units alpha delta beta m ≤ℤ pos 245759
+  nearby_before_highest : nearby_units alpha delta beta m ≤ℤ pos 245759
   unfolding nearby_units
   nearby_before_highest = last_or (lt_z (pos 22000000) m) (chord_inside (on_line_through_zero alpha m)).1
+
+  pub guess_before_last : (near : ℕ) → units_at_place near ≡ nearby_units alpha delta beta m → near + 1 ≤ 491520
+  guess_before_last near e = place_before_last near (rw e nearby_before_highest)
 
 -- ---- each number fits an i64
 -- a floor is no larger than what is divided
@@ -97,11 +101,17 @@ module _ {m : ℤ} (small : Bounded m (pos 22000000)) where
   pub line_numerator_fits : SFits w64 ((m -ℤ one) *ℤ pos 240000)
   line_numerator_fits = fits (bounded_product above_one_bounded (number_bounded 240000)) tt
 
-module _ {alpha delta beta : ℕ} (admissible : Admissible alpha delta beta) {t : ℤ} (from : InRange t) (to : InRange (t +ℤ pos 2048)) where
-  pub chord_rise_fits : SFits w64 (F alpha delta beta (t +ℤ pos 2048) -ℤ F alpha delta beta t)
-  chord_rise_fits = fits (bounded_difference (F_bounded to admissible) (F_bounded from admissible)) tt
+-- the numbers on the way to where the chord of F from t comes to m; what is divided by is above 0
+pub record ChordFits (alpha delta beta : ℕ) (m t : ℤ) : Type 0 where
+  pub end : SFits w64 (t +ℤ pos 2048)
+  pub missing : SFits w64 (m -ℤ F alpha delta beta t)
+  pub numerator : SFits w64 ((m -ℤ F alpha delta beta t) *ℤ pos 2048)
+  pub rise : SFits w64 (F alpha delta beta (t +ℤ pos 2048) -ℤ F alpha delta beta t)
+  pub rises : pos 0 <ℤ (F alpha delta beta (t +ℤ pos 2048) -ℤ F alpha delta beta t)
+  pub sum : SFits w64 (t +ℤ floor ((m -ℤ F alpha delta beta t) *ℤ pos 2048) (F alpha delta beta (t +ℤ pos 2048) -ℤ F alpha delta beta t))
 
-  pub chord_rises : pos 0 <ℤ (F alpha delta beta (t +ℤ pos 2048) -ℤ F alpha delta beta t)
+module _ {alpha delta beta : ℕ} (admissible : Admissible alpha delta beta) {t : ℤ} (from : InRange t) (to : InRange (t +ℤ pos 2048)) where
+  chord_rises : pos 0 <ℤ (F alpha delta beta (t +ℤ pos 2048) -ℤ F alpha delta beta t)
   chord_rises =
       let further : t <ℤ (t +ℤ pos 2048) = omega (arith, order, sum_parts t (pos 2048)) in
       (lt_by ((F alpha delta beta t) ∷ (F alpha delta beta (t +ℤ pos 2048)) ∷ []) ((v0 :< v1) ∷ []) (# 0) (v1 :- v0) (hyp 0 ⊕ hyp 1) tt (rises_strictly admissible from to further))
@@ -110,17 +120,21 @@ module _ {alpha delta beta : ℕ} (admissible : Admissible alpha delta beta) {t 
     missing_bounded : Bounded (m -ℤ F alpha delta beta t) (pos 43985938)
     missing_bounded = bounded_difference small (F_bounded from admissible)
 
-    pub missing_fits : SFits w64 (m -ℤ F alpha delta beta t)
-    missing_fits = fits missing_bounded tt
+    numerator_bounded : Bounded ((m -ℤ F alpha delta beta t) *ℤ pos 2048) (pos 90083201024)
+    numerator_bounded = bounded_product missing_bounded (number_bounded 2048)
 
-    chord_numerator_bounded : Bounded ((m -ℤ F alpha delta beta t) *ℤ pos 2048) (pos 90083201024)
-    chord_numerator_bounded = bounded_product missing_bounded (number_bounded 2048)
+    quotient_bounded : Bounded (floor ((m -ℤ F alpha delta beta t) *ℤ pos 2048) (F alpha delta beta (t +ℤ pos 2048) -ℤ F alpha delta beta t)) (pos 90083201024)
+    quotient_bounded = floor_no_larger ((m -ℤ F alpha delta beta t) *ℤ pos 2048) chord_rises numerator_bounded
 
-    pub chord_numerator_fits : SFits w64 ((m -ℤ F alpha delta beta t) *ℤ pos 2048)
-    chord_numerator_fits = fits chord_numerator_bounded tt
-
-    pub on_chord_fits : SFits w64 (t +ℤ floor ((m -ℤ F alpha delta beta t) *ℤ pos 2048) (F alpha delta beta (t +ℤ pos 2048) -ℤ F alpha delta beta t))
-    on_chord_fits = fits (bounded_sum (t_bounded from) (floor_no_larger ((m -ℤ F alpha delta beta t) *ℤ pos 2048) chord_rises chord_numerator_bounded)) tt
+    pub chord_fits : ChordFits alpha delta beta m t
+    chord_fits = record {
+      end = t_fits to;
+      missing = fits missing_bounded tt;
+      numerator = fits numerator_bounded tt;
+      rise = fits (bounded_difference (F_bounded to admissible) (F_bounded from admissible)) tt;
+      rises = chord_rises;
+      sum = fits (bounded_sum (t_bounded from) quotient_bounded) tt;
+    }
 
 -- ---- the ends enclose the answer
 module _ {alpha delta beta : ℕ} (admissible : Admissible alpha delta beta) (m : ℤ) where

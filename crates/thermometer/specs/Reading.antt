@@ -1,9 +1,10 @@
 -- Document 01, "One thermometer".
-use Rattle.std.specs.Prelude.{ℕ, List, [], ◌∷◌, Bool, not, ◌&&◌, leb, ltb, ℤ}
+use Rattle.std.specs.Prelude.{ℕ, List, [], ◌∷◌, Bool, not, ◌&&◌, leb, ltb, ℤ, Ok, Err}
+use Rattle.std.specs.Prelude.{Result as Answered}
 use Rattle.std.specs.Int.Signed.{lt_z}
 use Rattle.lists.specs.Tests.{Verdict, passes, fails, Test, ◌when◌, first_that_applies}
-use Rattle.thermometer.specs.declared.Reading.{Reading}
-use Rattle.thermometer.specs.declared.Reading.TheVariants.{Units, CoefficientOutside, PamNotAboveOffset, RatioOutside}
+use Rattle.thermometer.specs.declared.Refusal.{Refusal}
+use Rattle.thermometer.specs.declared.Refusal.TheVariants.{CoefficientOutside, PamNotAboveOffset, RatioOutside}
 use Rattle.thermometer.specs.Rule.{M, F, answer, lowest_units, highest_units}
 
 -- what One thermometer gives: t in units of °C, or the number of its refusal
@@ -17,11 +18,14 @@ number (units t) = 0
 number (not_read n) = n
 
 -- document 01's number and value for each case of the code's answer
-abbrev pub result_of : Reading → Result
-result_of (Units t) = units t
-result_of CoefficientOutside = not_read 8
-result_of PamNotAboveOffset = not_read 9
-result_of RatioOutside = not_read 10
+abbrev pub refusal_number : Refusal → ℕ
+refusal_number CoefficientOutside = 8
+refusal_number PamNotAboveOffset = 9
+refusal_number RatioOutside = 10
+
+abbrev pub result_of : Answered ℤ Refusal → Result
+result_of (Ok t) = units t
+result_of (Err refusal) = not_read (refusal_number refusal)
 
 -- ---- the ranges of R_PAM and R0 and of the coefficients (document 01, "The table")
 abbrev pub from_to : ℕ → ℕ → ℕ → Bool
