@@ -1,21 +1,20 @@
 -- What an accepted bias file is; that the bytes beside a refusal are no accepted one; what opening a table and then a bias file answers.
-use Prim.Native.Nat.{ℕ, ◌<◌}
+use Prim.Native.Nat.{ℕ}
 use native.Mathlib.Omega.{arith}
 use mathlib.Core.Path.{◌≡◌, refl, sym, ap, ◌∙◌}
 use mathlib.Core.List.{List, [], ◌∷◌}
-use lib.ListN.{length, get_or, replicate}
+use lib.ListN.{length, replicate}
 use Rattle.lists.specs.Tests.{Verdict, passes, fails, number_of, and_then}
-use Rattle.lists.proofs.Elements.{zero_of_zeros}
-use Rattle.fields.specs.Fields.{layout_of}
-use Rattle.table.specs.Opening.{opening, opened_by}
-use Rattle.table.proofs.OpeningLaws.{PassedTests, passed_tests, opened_when_passed, first_tag}
+use Rattle.fields.specs.Fields.{field}
+use Rattle.table.specs.Opening.{opening}
+use Rattle.table.proofs.OpeningLaws.{PassedTests, passed_tests, first_tag}
+use Rattle.bias.specs.declared.TheConstants.{LAYOUT}
 use Rattle.bias.specs.Bias.{bias_layout, bias_size}
 use Rattle.bias.specs.Opening.{bias_inside, bias_opening, AcceptedBias, both_opening}
 
--- the layout that `open` lends to the reader of fields
-pub lent_layout : layout_of (0x13 ∷ []) (8448 ∷ []) ≡ bias_layout
-unfolding layout_of
-lent_layout = refl
+-- the constant that `open` lends is the layout, here in numbers
+pub lent_layout : (LAYOUT ≡ bias_layout) × (bias_layout ≡ field 0x13 8448 ∷ [])
+lent_layout = (refl, refl)
 
 -- ---- an accepted file
 
@@ -27,20 +26,7 @@ module _ {bias : List ℕ} (file : AcceptedBias bias) where
   pub accepted_bias_length : length bias ≡ bias_size
   accepted_bias_length = accepted_bias_tests.long
 
--- ---- what stands beside the answer
-
-module _ (bytes : List ℕ) {bias : List ℕ} (opened : bias ≡ opened_by bias_size (bias_opening bytes) bytes) where
-  pub bias_when_passed : bias_opening bytes ≡ passes → bias ≡ bytes
-  bias_when_passed = opened_when_passed bias_size bytes opened
-
-  -- it is an accepted one, which `fresh` asks
-  pub accepted_bias_when_passed : ((k : ℕ) → get_or bias k 0 < 256) → bias_opening bytes ≡ passes → AcceptedBias bias
-  accepted_bias_when_passed small passed = record { accepted = ap bias_opening (bias_when_passed passed) ∙ passed; bytes = small }
-
--- what stands beside an answer are bytes
-pub opened_bytes : (size : ℕ) (verdict : Verdict) (bytes : List ℕ) → ((k : ℕ) → get_or bytes k 0 < 256) → (k : ℕ) → get_or (opened_by size verdict bytes) k 0 < 256
-opened_bytes size passes bytes small k = small k
-opened_bytes size (fails n) bytes small k = omega (arith, zero_of_zeros size k)
+-- ---- the bytes beside a refusal
 
 pub no_bias_refused : AcceptedBias (replicate bias_size 0) → ⊥
 no_bias_refused file = omega (arith, first_tag (replicate bias_size 0) _ _ (accepted_bias_tests file).right)

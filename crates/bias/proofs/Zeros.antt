@@ -10,7 +10,8 @@ use lib.Seq.{drop-drop}
 use Rattle.lists.proofs.Every.{every_when_each}
 use Rattle.lists.proofs.Elements.{zero_of_zeros, each_appended, each_of_take, each_of_drop}
 use Rattle.fields.specs.Numbers.{i16_at, signed}
-use Rattle.fields.specs.Fields.{Field, head_size, field_at, field_is_right, layout_is_right}
+use Rattle.fields.specs.declared.Field.{Field}
+use Rattle.fields.specs.Fields.{head_size, field_at, field_is_right, layout_is_right}
 use Rattle.fields.proofs.FieldBytes.{head_bytes_lem, length_field}
 use Rattle.instrument.specs.Instrument.{channels, positions}
 use Rattle.table.specs.Ranges.{size_to}

@@ -2,7 +2,8 @@
 -- channel, position by position, c0 then e; channels and positions are counted from 0.
 use Rattle.std.specs.Prelude.{ℕ, ◌+◌, ◌*◌, List, [], ◌∷◌, ℤ, take, drop, replicate}
 use Rattle.fields.specs.Numbers.{i16_at}
-use Rattle.fields.specs.Fields.{Field, field, field_bytes, layout_size, field_at, value_start}
+use Rattle.fields.specs.declared.Field.{Field}
+use Rattle.fields.specs.Fields.{field, field_bytes, layout_size, field_at, value_start}
 use Rattle.instrument.specs.Instrument.{positions}
 
 abbrev pub bias_layout : List Field

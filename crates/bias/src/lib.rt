@@ -2,26 +2,28 @@
 
 #![tactic(auto)]
 
-ghost use Rattle.std.specs.Prelude.{◌≡◌, ℕ, ◌+◌, ◌<◌, ◌≤◌, [], ◌∷◌, length, get_or, replicate};
+ghost use Rattle.std.specs.Prelude.{◌≡◌, ◌+◌, ◌<◌, ◌≤◌, length, IfOk};
 ghost use Rattle.lists.specs.Build.{put};
-ghost use Rattle.instrument.specs.Instrument.{positions};
-ghost use Rattle.table.specs.Opening.{verdict_of, opened_by};
-ghost use Rattle.bias.specs.Bias.{bias_size, part_size, c0_in};
-ghost use Rattle.bias.specs.Opening.{part_inside, bias_inside, bias_opening};
+ghost use Rattle.instrument.specs.Instrument.{channels, positions};
+ghost use Rattle.table.specs.Opening.{verdict_of};
+ghost use Rattle.bias.specs.Bias.{part_size, bias_part, c0_in};
+ghost use Rattle.bias.specs.Opening.{part_inside, bias_inside, bias_opening, AcceptedBias};
 ghost use Rattle.bias.specs.Pairs.{raised, pair_at, pairs_of};
 
-use fields::HEAD;
+use fields::{Field, HEAD};
 use instrument::{CHANNELS, POSITIONS};
-use table::Opening;
+use std::marker::Model;
+use table::Refusal;
 
 // The layout, and where the value starts.
-const TAGS: [u8; 1] = [0x13];
-
-const SIZES: [u16; 1] = [8448];
+const LAYOUT: [Field; 1] = [Field {
+    tag: 0x13,
+    size: 8448,
+}];
 
 const VALUE_AT: usize = HEAD;
 
-pub const BIAS_SIZE: usize = VALUE_AT + SIZES[0] as usize;
+pub const BIAS_SIZE: usize = VALUE_AT + LAYOUT[0].size as usize;
 
 // The bytes of one position's pair, and of a channel's part.
 const PAIR_SIZE: usize = 4;
@@ -31,19 +33,42 @@ const PART_SIZE: usize = PAIR_SIZE * POSITIONS;
 // How many pairs a bias file has, and how many numbers they are.
 const PAIRS: usize = POSITIONS * CHANNELS;
 
-const PAIR_NUMBERS: usize = 2 * PAIRS;
+pub const PAIR_NUMBERS: usize = 2 * PAIRS;
 
-// An opened bias file. Only `open` makes one.
+// As many bytes as a bias file has.
+pub type BiasBytes = [u8; BIAS_SIZE];
+
+// An opened bias file. Only `open` makes one, and every one is accepted.
 #[derive(Clone, Copy)]
 pub struct Bias {
-    bytes: [u8; BIAS_SIZE],
+    bytes: BiasBytes,
 }
 
-// The answer, and beside it the bias file where it is accepted.
+impl Model for Bias {
+    ghost use Rattle.bias.specs.Opened.{OpenedBias};
+
+    ghost Value = { OpenedBias };
+
+    ghost use Rattle.bias.specs.Opening.{AcceptedBias};
+
+    ghost view = { λ b. record { bytes = b.bytes } };
+
+    ghost invariant = { λ b. AcceptedBias b.bytes };
+
+    ghost inverse = { λ v. record { bytes = v.bytes } };
+}
+
+// The numbers of all pairs, a factor and an offset for each position, channel by channel. They are a row of numbers since the C function
+// `compared_product` lends one.
+pub type PairNumbers = [u32; PAIR_NUMBERS];
+
+// A bias file and the numbers of its pairs, which are formed once for a list of feeds.
 #[derive(Clone, Copy)]
-pub struct Opened {
-    pub answer: Opening,
-    bias: Bias,
+pub struct Pairs<'a> {
+    pub bias: &'a Bias,
+    pub numbers: &'a PairNumbers,
+    ghost accepted: { AcceptedBias bias.now.bytes },
+    ghost formed: { numbers.now ≡ pairs_of bias.now.bytes },
 }
 
 // c0 of position i in a channel's part.
@@ -58,58 +83,35 @@ fn part_inside(part: &[u8]) -> bool
     requires { length part.now ≡ part_size }
     ensures { result ≡ part_inside part.now }
 {
-    for i in 0..POSITIONS {
-        if !table::size_to(4_096, c0_in(part, i)) {
-            return false;
-        }
-    }
-    true
+    (0..POSITIONS).all(|i| table::size_to(4_096, c0_in(part, i)))
 }
 
-fn values_inside(bytes: &[u8]) -> bool
-    requires { length bytes.now ≡ bias_size }
+// Channel c's part.
+fn part_of(bytes: &BiasBytes, c: usize) -> &[u8]
+    requires { c < channels }
+    ensures part { result.now ≡ bias_part bytes.now c }
+    ensures long { length result.now ≡ part_size }
+{
+    let start = VALUE_AT + PART_SIZE * c;
+    &bytes[start..start + PART_SIZE]
+}
+
+fn values_inside(bytes: &BiasBytes) -> bool
     ensures { result ≡ bias_inside bytes.now }
 {
-    for c in 0..CHANNELS {
-        let start = VALUE_AT + PART_SIZE * c;
-        if !part_inside(&bytes[start..start + PART_SIZE]) {
-            return false;
-        }
-    }
-    true
-}
-
-// A refusal gives no bias file: its bytes are all 0.
-fn refused(answer: Opening) -> Opened
-    ensures { (result.answer ≡ answer) × (result.bias.bytes ≡ replicate bias_size 0) }
-{
-    Opened {
-        answer,
-        bias: Bias {
-            bytes: [0; BIAS_SIZE],
-        },
-    }
+    (0..CHANNELS).all(|c| part_inside(part_of(bytes, c)))
 }
 
 // Opening a bias file: any bytes.
-pub fn open(bytes: &[u8]) -> Opened
-    ensures { (verdict_of result.answer ≡ bias_opening bytes.now) × (result.bias.bytes ≡ opened_by bias_size (bias_opening bytes.now) bytes.now) × ((k : ℕ) → get_or result.bias.bytes k 0 < 256) }
+pub fn open(bytes: &[u8]) -> Result<Bias, Refusal>
+    ensures verdict { verdict_of result ≡ bias_opening bytes.now }
+    ensures bias { IfOk result (λ bias. bias.bytes ≡ bytes.now) }
 {
-    if bytes.len() != BIAS_SIZE {
-        return refused(Opening::LengthWrong);
-    }
-    if !fields::layout_is_right(bytes, &TAGS, &SIZES) {
-        return refused(Opening::FieldWrong);
-    }
+    let bytes = table::with_layout(bytes, &LAYOUT)?;
     if !values_inside(bytes) {
-        return refused(Opening::ValueOutside);
+        return Err(Refusal::ValueOutside);
     }
-    let mut copy = [0u8; BIAS_SIZE];
-    copy.copy_from_slice(bytes);
-    Opened {
-        answer: Opening::Accepted,
-        bias: Bias { bytes: copy },
-    }
+    Ok(Bias { bytes: *bytes })
 }
 
 // ---- the pairs as numbers
@@ -118,15 +120,7 @@ pub fn open(bytes: &[u8]) -> Opened
 fn raised_of(n: u16) -> u32
     ensures { result ≡ raised n }
 {
-    (n as u32 + 32_768) % 65_536
-}
-
-fn put_two(out: &mut [u32], at: usize, first: u32, second: u32)
-    requires { at + 2 ≤ length out.old }
-    ensures { out.new ≡ put out.old at (first ∷ second ∷ []) }
-{
-    out[at] = first;
-    out[at + 1] = second;
+    (u32::from(n) + 32_768) % 65_536
 }
 
 // The pair that begins at `from`, as its factor and its offset.
@@ -136,35 +130,24 @@ fn put_pair(out: &mut [u32], at: usize, bytes: &[u8], from: usize)
 {
     let c0 = raised_of(fields::u16_at(bytes, from));
     let e = raised_of(fields::u16_at(bytes, from + 2));
-    put_two(out, at, e + 32_768, 65_536 * c0 + 32_767);
+    lists::copy(&[e + 32_768, 65_536 * c0 + 32_767], out, at);
 }
 
-// All pairs, each read once.
-pub fn pairs_of(bytes: &[u8]) -> [u32; PAIR_NUMBERS]
-    requires { length bytes.now ≡ bias_size }
-    ensures { result ≡ pairs_of bytes.now }
+// The numbers of all pairs, each pair read once, in the place that is lent for them: 16,896 bytes, which the stack has once.
+pub fn put_pairs(numbers: &mut PairNumbers, bytes: &BiasBytes)
+    ensures { numbers.new ≡ pairs_of bytes.now }
 {
-    let mut pairs = [0u32; PAIR_NUMBERS];
+    // By index: pair k is two numbers and four bytes, so that chunks of both would be zipped to give what k says.
     for k in 0..PAIRS {
-        put_pair(&mut pairs, 2 * k, bytes, VALUE_AT + PAIR_SIZE * k);
-    }
-    pairs
-}
-
-impl Opened {
-    // The bias file where it is accepted, for a fresh calibrator.
-    pub fn bias(self) -> Bias
-        ensures { result ≡ self.bias }
-    {
-        self.bias
+        put_pair(numbers, 2 * k, bytes, VALUE_AT + PAIR_SIZE * k);
     }
 }
 
 impl Bias {
-    // The bytes, for `pairs_of` and for whoever is lent them.
-    pub fn bytes(self) -> [u8; BIAS_SIZE]
-        ensures { result ≡ self.bytes }
+    pub fn bytes(&self) -> &BiasBytes
+        ensures bytes { result.now ≡ self.now.bytes }
+        ensures accepted { AcceptedBias result.now }
     {
-        self.bytes
+        &self.bytes
     }
 }

@@ -1,12 +1,12 @@
 -- The interpolation of TNL, for pairs in their ranges: what it is below, at, between and above the pairs, that its denominator is above 0, and
 -- that it stays between whole numbers that both pairs' TNL are between. Of r only this is used: it is within a half.
-use Prim.Native.Nat.{ℕ, zero, suc, ◌+◌, ◌-◌, ◌≤◌, ◌<◌}
+use Prim.Native.Nat.{ℕ, zero, suc, ◌+◌, ◌-◌, ◌<◌}
 use native.Mathlib.Omega.{arith}
 use mathlib.Core.Path.{◌≡◌, refl, ap, subst, sym, ◌∙◌}
 use mathlib.Core.List.{[], ◌∷◌}
 use mathlib.Core.Bool.{Bool, true, false, cond}
 use lib.IntN.{ℤ, pos, neg_ℤ, ◌*ℤ◌}
-use lib.Signed.{◌≤ℤ◌, ◌<ℤ◌, le_z, lt_z_yes, ≤ℤ_refl}
+use lib.Signed.{◌≤ℤ◌, ◌<ℤ◌, lt_z_yes, ≤ℤ_refl}
 use Rattle.integers.specs.Rounding.{r}
 use Rattle.integers.specs.Bounds.{Bounded, WithinHalf}
 use Rattle.integers.specs.Fractions.{Fraction, whole}

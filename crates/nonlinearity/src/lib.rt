@@ -5,12 +5,13 @@
 ghost use Rattle.std.specs.Prelude.{◌≡◌, ◌<◌, ◌≤ℤ◌, ◌<ℤ◌};
 ghost use Rattle.instrument.specs.Instrument.{channels};
 ghost use Rattle.integers.specs.Rounding.{r};
-ghost use Rattle.table.specs.Settings.{settings_of};
-ghost use Rattle.table.specs.Opening.{ages, AcceptedTable};
+ghost use Rattle.std.specs.Int.Signed.{le_z};
+ghost use Rattle.table.specs.Settings.{pairs, settings_of};
+ghost use Rattle.table.specs.Opening.{ages};
 ghost use Rattle.nonlinearity.specs.Interpolation.{on_line, tnl_of};
 ghost use Rattle.nonlinearity.specs.Steps.{ShelfPairRange};
 
-use table::{SHELF_PAIRS, ShelfPair};
+use table::{SHELF_PAIRS, ShelfPair, Table, TableBytes};
 
 // Between two pairs: the straight line's value, one fraction, rounded once.
 fn on_line(low: ShelfPair, high: ShelfPair, shelf: i64) -> i64
@@ -21,22 +22,27 @@ fn on_line(low: ShelfPair, high: ShelfPair, shelf: i64) -> i64
     integers::round(weighted, high.shelf - low.shelf)
 }
 
-// TNL of channel c, counted from 0, at this shelf temperature. Up to the first pair and above the last it is the end value.
-pub fn tnl_of(table: &[u8], c: usize, shelf: i64) -> i64
-    requires { AcceptedTable table.now × (c < channels) }
-    ensures { result ≡ tnl_of ((settings_of ages table.now).channel c).pair shelf }
+// Whether this shelf temperature is at most that of pair j.
+fn is_up_to(table: &TableBytes, c: usize, j: usize, shelf: i64) -> bool
+    requires { (c < channels) × (j < pairs) }
+    ensures { result ≡ le_z shelf (((settings_of ages table.now).channel c).pair j).shelf }
 {
-    let first = table::pair_of(table, c, 0);
-    if shelf <= first.shelf {
-        return first.tnl;
-    }
-    for j in 0..SHELF_PAIRS - 1 {
-        let high = table::pair_of(table, c, j + 1);
-        if shelf <= high.shelf {
-            let low = table::pair_of(table, c, j);
-            return on_line(low, high, shelf);
+    shelf <= table::pair_of(table, c, j).shelf
+}
+
+// TNL of channel c, counted from 0, at this shelf temperature. Up to the first pair and above the last it is the end value.
+pub fn tnl_of(table: &Table, c: usize, shelf: i64) -> i64
+    requires { c < channels }
+    ensures { result ≡ tnl_of ((settings_of ages table.now.bytes).channel c).pair shelf }
+{
+    let table = table.bytes();
+    match (0..SHELF_PAIRS).find(|&j| is_up_to(table, c, j, shelf)) {
+        Some(0) => table::pair_of(table, c, 0).tnl,
+        Some(j) => {
+            let low = table::pair_of(table, c, j - 1);
+            let high = table::pair_of(table, c, j);
+            on_line(low, high, shelf)
         }
+        None => table::pair_of(table, c, SHELF_PAIRS - 1).tnl,
     }
-    let last = table::pair_of(table, c, SHELF_PAIRS - 1);
-    last.tnl
 }

@@ -16,8 +16,9 @@ use Rattle.fields.proofs.FieldBytes.{u16_that_stands, u32_that_stands, Sized, le
 use Rattle.instrument.specs.Instrument.{channels, positions}
 use Rattle.record.specs.Record.{earth_part}
 use Rattle.scene.specs.Scene.{bits}
-use Rattle.scene.specs.declared.Channel.{Channel}
+use Rattle.scene.specs.Channel.{Channel}
 use Rattle.product.specs.declared.Summary.{Summary}
+use Rattle.scene.specs.Channel.{channel_flag}
 use Rattle.product.specs.Scenes.{Deliver, scene_at, no_channel}
 use Rattle.product.specs.Summary.{none_delivered, summary_of}
 use Rattle.product.specs.Product.{product_layout, product_size, stretch_size, summary_size, channel_scenes, scene_bytes, summary_bytes, summaries, summaries_bytes, flag_bytes, product_of}
@@ -70,11 +71,11 @@ module _ (deliver : ℕ → Deliver) (number : ℕ) (states : List Channel) (ear
       abbrev summary_place : ℕ
       summary_place = value_start product_layout 3 + summary_size * c
 
-      pub flag_in_product : get_or (product_of deliver number states earth ++ rest) (value_start product_layout 1 + c) 0 ≡ (get_or states c no_channel).flag
+      pub flag_in_product : get_or (product_of deliver number states earth ++ rest) (value_start product_layout 1 + c) 0 ≡ channel_flag (get_or states c no_channel)
       unfolding flag_bytes
       flag_in_product =
           (value_in_product 1 (omega arith)).each c 0 (omega (arith, length_flag_bytes states))
-          ∙ get_d_tabulate (λ k. (get_or states k no_channel).flag) channels c 0 below
+          ∙ get_d_tabulate (λ k. channel_flag (get_or states k no_channel)) channels c 0 below
 
       summary_stands : StandsAt (product_of deliver number states earth ++ rest) summary_place (summary_bytes summary)
       unfolding summaries_bytes summaries

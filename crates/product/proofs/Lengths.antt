@@ -7,8 +7,9 @@ use Rattle.lists.proofs.Cells.{length_cells}
 use Rattle.lists.proofs.Tabulate.{length_tabulate}
 use Rattle.instrument.specs.Instrument.{channels, positions}
 use Rattle.scene.specs.Scene.{bits}
-use Rattle.scene.specs.declared.Channel.{Channel}
+use Rattle.scene.specs.Channel.{Channel}
 use Rattle.product.specs.declared.Summary.{Summary}
+use Rattle.scene.specs.Channel.{channel_flag}
 use Rattle.product.specs.Scenes.{Deliver, scene_at, no_channel}
 use Rattle.record.specs.Record.{earth_part}
 use Rattle.product.specs.Summary.{none_delivered}
@@ -35,4 +36,4 @@ length_summaries_bytes all = length_cells (λ c. summary_bytes (get_or all c non
 
 pub length_flag_bytes : (states : List Channel) → length (flag_bytes states) ≡ channels
 unfolding flag_bytes
-length_flag_bytes states = length_tabulate (λ c. (get_or states c no_channel).flag) channels
+length_flag_bytes states = length_tabulate (λ c. channel_flag (get_or states c no_channel)) channels

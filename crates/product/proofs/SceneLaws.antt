@@ -2,12 +2,12 @@
 use Prim.Native.Nat.{ℕ, ◌≤◌}
 use native.Mathlib.Omega.{arith}
 use mathlib.Core.Path.{◌≡◌, refl, sym, ap, ◌∙◌}
-use mathlib.Core.Bool.{Bool, true, false, not, cond}
+use mathlib.Core.Bool.{not}
 use mathlib.Core.List.{List}
-use lib.Dec.{T, eqb}
+use lib.Dec.{T}
 use lib.IntN.{ℤ, pos, nat_abs}
 use lib.Ieee.{Float, is_nan}
-use borrow.Author.Tests.{eqb-true}
+use Rattle.std.specs.Prelude.{Result, Ok, Err}
 use Rattle.integers.specs.Bounds.{Bounded}
 use Rattle.integers.proofs.Order.{at_most_trans}
 use Rattle.integers.proofs.Naturals.{natural_at_most}
@@ -21,8 +21,12 @@ use Rattle.scene.proofs.Delivered.{temperature_of, Passes, WithinGuard, delivere
 use Rattle.scene.proofs.Ranges.{SceneRange}
 use Rattle.scene.proofs.BiasRange.{temperature_low, temperature_high, biased_within}
 use Rattle.scene.specs.Temperature.{temperature}
-use Rattle.scene.specs.declared.Channel.{Channel}
+use Rattle.scene.specs.declared.Constants.{Constants}
+use Rattle.scene.specs.declared.Flag.{Flag}
+use Rattle.scene.specs.Channel.{Channel}
+use Rattle.scene.specs.declared.Curve.{Curve}
 use Rattle.product.specs.Scenes.{with_bias, scene_in}
+use Rattle.product.specs.Steps.{CurveOf, scene_by}
 
 -- a temperature in whole units
 pub record InUnits (x : Float) : Type 0 where
@@ -33,39 +37,44 @@ pub record InUnits (x : Float) : Type 0 where
 
 -- what is delivered in a channel is a whole number of units from 1 to 16,777,215
 pub record InUnitsBy (deliver : ℤ → ℤ) (channel : Channel) : Type 0 where
-  pub within : channel.flag ≡ 0 → (count : ℕ) → Passes channel.constants count → WithinGuard (deliver (temperature_of channel.constants count))
+  pub within : (k : Constants) → channel ≡ Ok k → (count : ℕ) → Passes k count → WithinGuard (deliver (temperature_of k count))
+
+-- what holds of the mark of a flagged channel and of the scene of the constants holds of the channel's scene
+scene_in_cases : (deliver : ℤ → ℤ) (channel : Channel) (count : ℕ) (P : Scene → Type 0)
+    → P Flagged → ((k : Constants) → channel ≡ Ok k → P (scene_of deliver k count)) → P (scene_in deliver channel count)
+unfolding scene_in
+scene_in_cases deliver (Ok k) count P flagged scene = scene k refl
+scene_in_cases deliver (Err flag) count P flagged scene = flagged
 
 module _ (deliver : ℤ → ℤ) (channel : Channel) (count : ℕ) where
-  -- what holds of the mark of a flagged channel and of the scene of the constants holds of the channel's scene
-  scene_in_cases : (P : Scene → Type 0) → P Flagged → (channel.flag ≡ 0 → P (scene_of deliver channel.constants count)) → P (scene_in deliver channel count)
-  unfolding scene_in
-  scene_in_cases P flagged scene = by_test (eqb channel.flag 0) refl
-    where
-      by_test : (b : Bool) → eqb channel.flag 0 ≡ b → P (cond b (scene_of deliver channel.constants count) Flagged)
-      by_test true zero_flag = scene (eqb-true channel.flag 0 zero_flag)
-      by_test false other = flagged
-
   pub scene_in_not_nan : T (not (is_nan (value (scene_in deliver channel count))))
-  scene_in_not_nan = scene_in_cases (λ s. T (not (is_nan (value s)))) flagged_not_nan (λ zero_flag. scene_not_nan deliver channel.constants count)
+  scene_in_not_nan = scene_in_cases deliver channel count (λ s. T (not (is_nan (value s)))) flagged_not_nan (λ k is. scene_not_nan deliver k count)
 
   pub temperature_in_units : InUnitsBy deliver channel → (x : Float) → scene_in deliver channel count ≡ Kelvin x → InUnits x
-  temperature_in_units units x = scene_in_cases (λ s. s ≡ Kelvin x → InUnits x) flagged_is_none scene
+  temperature_in_units units x = scene_in_cases deliver channel count (λ s. s ≡ Kelvin x → InUnits x) flagged_is_none scene
     where
       flagged_is_none : Flagged ≡ Kelvin x → InUnits x
       flagged_is_none e = let z : ◌≡◌ {A = ℕ} 0 1 = cc in absurd (omega arith)
 
-      scene : channel.flag ≡ 0 → scene_of deliver channel.constants count ≡ Kelvin x → InUnits x
-      scene zero_flag e =
-          let k = channel.constants in
+      scene : (k : Constants) → channel ≡ Ok k → scene_of deliver k count ≡ Kelvin x → InUnits x
+      scene k is e =
           let both = delivered_exactly_when deliver k count in
           let passed = both.0 x e in
-          let within = units.within zero_flag count passed in
+          let within = units.within k is count passed in
           record {
             units = nat_abs (deliver (temperature_of k count));
             low = within.low;
             high = within.high;
             same = ap value (sym e ∙ both.1 passed);
           }
+
+-- ---- by the curve of a channel
+pub scene_by_curve : (deliver : ℤ → ℤ) (channel : Channel) (curve : Result Curve Flag) (count : ℕ) → CurveOf channel curve → scene_by deliver curve count ≡ scene_in deliver channel count
+unfolding scene_in
+scene_by_curve deliver (Ok k) (Ok curve) count same = ap (λ k. scene_of deliver k count) same
+scene_by_curve deliver (Err flag) (Ok curve) count same = let clash : ◌≡◌ {A = ℕ} 0 1 = cc in absurd (omega arith)
+scene_by_curve deliver (Ok k) (Err other) count same = absurd same
+scene_by_curve deliver (Err flag) (Err other) count same = refl
 
 -- ---- by an accepted bias file
 pub e_bounded : {part : List ℕ} {i : ℕ} → PairRange part i → Bounded (e_in part i) (pos 32768)

@@ -3,13 +3,14 @@ use Rattle.std.specs.Prelude.{ℕ, ◌*◌, List, [], ◌∷◌, ◌++◌, get_o
 use Rattle.std.specs.Float.{binary32}
 use Rattle.std.specs.Float.Ieee.{to_bits}
 use Rattle.fields.specs.Numbers.{u16_bytes, u32_bytes}
-use Rattle.fields.specs.Fields.{Field, field, layout_size, field_at, field_bytes}
+use Rattle.fields.specs.declared.Field.{Field}
+use Rattle.fields.specs.Fields.{field, layout_size, field_at, field_bytes}
 use Rattle.lists.specs.Build.{tabulate, cells}
 use Rattle.lists.specs.Sum.{sum}
 use Rattle.instrument.specs.Instrument.{channels, positions}
 use Rattle.record.specs.Record.{earth_part}
 use Rattle.scene.specs.Scene.{bits}
-use Rattle.scene.specs.declared.Channel.{Channel}
+use Rattle.scene.specs.Channel.{Channel, channel_flag}
 use Rattle.product.specs.declared.Summary.{Summary}
 use Rattle.product.specs.Scenes.{Deliver, scene_at, no_channel}
 use Rattle.product.specs.Summary.{none_delivered, summary_of}
@@ -46,7 +47,7 @@ summaries_bytes all = cells (λ c. summary_bytes (get_or all c none_delivered)) 
 
 -- 0x21
 unfoldable pub flag_bytes : List Channel → List ℕ
-flag_bytes states = tabulate (λ c. (get_or states c no_channel).flag) channels
+flag_bytes states = tabulate (λ c. channel_flag (get_or states c no_channel)) channels
 
 -- `deliver` is `by_bias` of a bias file, or `without_bias` for every channel
 unfoldable pub product_of : (ℕ → Deliver) → ℕ → List Channel → List ℕ → List ℕ

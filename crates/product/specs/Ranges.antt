@@ -1,8 +1,8 @@
 -- Document 01, "Scenes": the ranges that the functions keep to. A reader of the promises can leave this out.
-use Rattle.std.specs.Prelude.{◌≡◌}
+use Rattle.std.specs.Prelude.{MatchResult, ⊤}
 use Rattle.scene.specs.Ranges.{ConstantsRange}
-use Rattle.scene.specs.declared.Channel.{Channel}
+use Rattle.scene.specs.Channel.{Channel}
 
--- what a channel keeps to: with flag 0 its constants are in their ranges
-pub record ChannelStateRange (channel : Channel) : Type 0 where
-  pub constants : channel.flag ≡ 0 → ConstantsRange channel.constants
+-- what a channel keeps to: without a flag its constants are in their ranges
+abbrev pub ChannelRange : Channel → Type 0
+ChannelRange channel = MatchResult channel ConstantsRange (λ flag. ⊤)

@@ -1,12 +1,12 @@
 -- Document 01, "Scenes" and "The product", and request W1: the scenes of all channels. Channels and positions are counted from 0.
-use Rattle.std.specs.Prelude.{ℕ, ◌*◌, List, Bool, true, false, cond, eqb, ℤ}
+use Rattle.std.specs.Prelude.{ℕ, ◌*◌, List, Bool, true, false, ℤ, Ok, Err}
 use Rattle.fields.specs.Numbers.{u16_at}
 use Rattle.scene.specs.declared.Scene.{Scene}
 use Rattle.scene.specs.declared.Scene.TheVariants.{Kelvin, Flagged, Outside, Guard}
 use Rattle.bias.specs.Bias.{bias_part, c0_in, e_in}
 use Rattle.scene.specs.Temperature.{biased}
 use Rattle.scene.specs.Scene.{scene_of, unbiased, no_constants}
-use Rattle.scene.specs.declared.Channel.{Channel}
+use Rattle.scene.specs.Channel.{Channel}
 
 -- which temperature, in units, is delivered for T at each position of a channel
 abbrev pub Deliver : Type 0
@@ -25,11 +25,12 @@ by_bias bias c = with_bias (bias_part bias c)
 
 -- a flagged channel has no other scene
 unfoldable pub scene_in : (ℤ → ℤ) → Channel → ℕ → Scene
-scene_in deliver channel count = cond (eqb channel.flag 0) (scene_of deliver channel.constants count) Flagged
+scene_in deliver (Ok constants) count = scene_of deliver constants count
+scene_in deliver (Err flag) count = Flagged
 
 -- past the last channel; nothing reads it
 abbrev pub no_channel : Channel
-no_channel = record { flag = 0; constants = no_constants }
+no_channel = Ok no_constants
 
 -- scene i of a channel with this part of the earth counts
 abbrev pub scene_at : Deliver → Channel → List ℕ → ℕ → Scene

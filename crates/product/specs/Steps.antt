@@ -1,12 +1,16 @@
 -- What the private functions cite, and the writer that is lent a bias file as numbers. A reader of the promises can leave this out.
-use Rattle.std.specs.Prelude.{ℕ, ◌+◌, ◌*◌, ◌<◌, List, not, cond, get_or, take, drop, T, eqb, pos}
+use Rattle.std.specs.Prelude.{ℕ, ◌≡◌, ◌+◌, ◌*◌, ◌<◌, List, not, get_or, take, drop, T, ℤ, Result, Ok, Err, MatchResult, IsOkAnd}
 use Rattle.instrument.specs.Instrument.{positions}
 use Rattle.product.specs.Scenes.{Deliver}
 use Rattle.std.specs.Float.Ieee.{is_nan}
-use Rattle.scene.specs.declared.Scale.{Scale}
+use Rattle.scene.specs.declared.Curve.{Curve}
+use Rattle.scene.specs.declared.Scene.{Scene}
+use Rattle.scene.specs.declared.Scene.TheVariants.{Flagged}
+use Rattle.scene.specs.Scene.{scene_of}
 use Rattle.scene.specs.Temperature.{biased}
-use Rattle.scene.specs.Steps.{scale_of, c0_of, e_of, BiasNumbers}
-use Rattle.scene.specs.declared.Channel.{Channel}
+use Rattle.scene.specs.Steps.{c0_of, e_of, BiasNumbers}
+use Rattle.scene.specs.declared.Flag.{Flag}
+use Rattle.scene.specs.Channel.{Channel}
 use Rattle.product.specs.declared.Summary.{Summary}
 
 -- both ends can be written: neither is a NaN
@@ -32,6 +36,11 @@ by_pairs pairs c = with_pairs (pairs_part pairs c)
 abbrev pub PairsRange : List ℕ → Type 0
 PairsRange part = (i : ℕ) → i < positions → BiasNumbers (get_or part (2 * i) 0) (get_or part (2 * i + 1) 0)
 
--- what the scenes of a channel share; nothing where it is flagged
-unfoldable pub scale_in : Channel → Scale
-scale_in channel = cond (eqb channel.flag 0) (scale_of channel.constants) (record { inverse = 0; edge = 0; top = pos 0; curve = pos 0; start = pos 0; twice = pos 0 })
+-- the curve of a channel: that of its constants, and none where it is flagged
+abbrev pub CurveOf : Channel → Result Curve Flag → Type 0
+CurveOf channel curve = MatchResult channel (λ k. IsOkAnd curve (λ c. c.constants ≡ k)) (λ flag. curve ≡ Err flag)
+
+-- the scene of a count by such a curve
+abbrev pub scene_by : (ℤ → ℤ) → Result Curve Flag → ℕ → Scene
+scene_by deliver (Ok curve) count = scene_of deliver curve.constants count
+scene_by deliver (Err flag) count = Flagged

@@ -4,8 +4,8 @@ use Rattle.std.specs.Prelude.{ℕ, zero, suc, ◌+◌, List, true, cond, eqb, po
 use Rattle.std.specs.Float.{fin}
 use Rattle.std.specs.Float.Ieee.{lt}
 use Rattle.scene.specs.declared.Scene.{Scene}
-use Rattle.scene.specs.declared.Scene.TheVariants.{Kelvin, Flagged, Outside, Guard}
-use Rattle.scene.specs.declared.Channel.{Channel}
+use Rattle.scene.specs.declared.Scene.TheVariants.{Kelvin}
+use Rattle.scene.specs.Channel.{Channel}
 use Rattle.instrument.specs.Instrument.{positions}
 use Rattle.product.specs.declared.Summary.{Summary}
 use Rattle.product.specs.Scenes.{Deliver, scene_at}
@@ -28,9 +28,7 @@ with_temperature s x =
 -- with one scene more
 unfoldable pub with_scene : Summary → Scene → Summary
 with_scene s (Kelvin x) = with_temperature s x
-with_scene s Flagged = s
-with_scene s Outside = s
-with_scene s Guard = s
+with_scene s mark = s
 
 -- of the first n scenes
 unfoldable pub summary_to : (ℕ → Scene) → ℕ → Summary

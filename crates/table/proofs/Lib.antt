@@ -1,4 +1,3 @@
 pub mod Answers
 pub mod Ranges
 pub mod OpeningLaws
-pub mod OpenedLaws

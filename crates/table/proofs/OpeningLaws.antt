@@ -1,26 +1,27 @@
 -- What opening answers, case by case; what an accepted table is; that the bytes beside a refusal are no accepted table.
 use Prim.Native.Nat.{ℕ}
 use native.Mathlib.Omega.{arith}
-use mathlib.Core.Path.{◌≡◌, refl, ap, ◌∙◌}
+use mathlib.Core.Path.{◌≡◌, refl, sym, ap, ◌∙◌}
 use mathlib.Core.List.{List, [], ◌∷◌}
 use mathlib.Core.Bool.{Bool, true, false, not, and-eq-true_iff}
 use lib.Dec.{eqb}
 use lib.ListN.{length, get_or, replicate}
 use borrow.Author.Tests.{eq-eqb, ne_eqb, eqb-true, not-false}
 use Rattle.lists.specs.Tests.{Verdict, passes, fails, ◌when◌, first_that_applies}
-use Rattle.lists.proofs.Tests.{none_applies}
-use Rattle.fields.specs.Fields.{Field, field_is_right, layout_of, layout_size, layout_is_right}
+use Rattle.lists.proofs.Tests.{none_applies, passes_is_no_failure}
+use Rattle.fields.specs.declared.Field.{Field}
+use Rattle.fields.specs.Fields.{field, field_is_right, layout_size, layout_is_right}
 use Rattle.fields.proofs.LayoutLaws.{first_when_right}
+use Rattle.table.specs.declared.TheConstants.{LAYOUT}
 use Rattle.table.specs.Settings.{table_layout, settings_of}
 use Rattle.table.specs.Ranges.{values_inside}
 use Rattle.table.specs.ValueRanges.{SettingsRange}
 use Rattle.table.specs.Opening.{ages, table_size, opening_by, opening, AcceptedTable, opened_by, table_by}
 use Rattle.table.proofs.Ranges.{values_in_range}
 
--- the layout that `open` lends to the reader of fields
-pub lent_layout : layout_of (0x10 ∷ 0x11 ∷ 0x12 ∷ 0x14 ∷ []) (37 ∷ 255 ∷ 440 ∷ 660 ∷ []) ≡ table_layout ages
-unfolding layout_of
-lent_layout = refl
+-- the constant that `open` lends is the layout, here in numbers
+pub lent_layout : (LAYOUT ≡ table_layout ages) × (table_layout ages ≡ field 0x10 37 ∷ field 0x11 255 ∷ field 0x12 440 ∷ field 0x14 660 ∷ [])
+lent_layout = (refl, refl)
 
 -- ---- the answer from the tests, of bytes with any layout
 
@@ -38,6 +39,16 @@ module _ (layout : List Field) (inside : Bool) (bytes : List ℕ) where
 
       pub opening_passes : inside ≡ true → opening_by layout inside bytes ≡ passes
       opening_passes holds = rw (eq-eqb (length bytes) (layout_size layout) long, right, holds)
+
+-- the tests before that of the values decide whatever the values are
+by_first_tests : (long right inside : Bool) {n : ℕ} → fails n ≡ first_that_applies ((1 when not long) ∷ (2 when not right) ∷ (3 when not true) ∷ [])
+    → fails n ≡ first_that_applies ((1 when not long) ∷ (2 when not right) ∷ (3 when not inside) ∷ [])
+by_first_tests false right inside refused = refused
+by_first_tests true false inside refused = refused
+by_first_tests true true inside {n} refused = absurd (passes_is_no_failure n (sym refused))
+
+pub refused_before_values : (layout : List Field) (inside : Bool) (bytes : List ℕ) {n : ℕ} → fails n ≡ opening_by layout true bytes → fails n ≡ opening_by layout inside bytes
+refused_before_values layout inside bytes = by_first_tests (eqb (length bytes) (layout_size layout)) (layout_is_right bytes 0 layout) inside
 
 -- ---- the tests from the answer
 
@@ -58,6 +69,20 @@ passed_tests layout inside bytes passed =
     let tests = passed_all (eqb (length bytes) (layout_size layout)) (layout_is_right bytes 0 layout) inside passed in
     record { long = eqb-true (length bytes) (layout_size layout) tests.0; right = tests.1; holds = tests.2 }
 
+-- where the layout is right the test of a copy's values decides
+module _ (layout : List Field) (inside : List ℕ → Bool) (bytes : List ℕ) {copy : List ℕ} {answer : Bool} (right : passes ≡ opening_by layout true bytes) (same : copy ≡ bytes) (answers : answer ≡ inside copy) where
+  layout_tests : PassedTests layout true bytes
+  layout_tests = passed_tests layout true bytes (sym right)
+
+  test_of_bytes : inside bytes ≡ answer
+  test_of_bytes = ap inside (sym same) ∙ sym answers
+
+  pub values_refuse : answer ≡ false → fails 3 ≡ opening_by layout (inside bytes) bytes
+  values_refuse outside = sym (opening_value_outside layout (inside bytes) bytes layout_tests.long layout_tests.right (test_of_bytes ∙ outside))
+
+  pub values_pass : answer ≡ true → passes ≡ opening_by layout (inside bytes) bytes
+  values_pass holds = sym (opening_passes layout (inside bytes) bytes layout_tests.long layout_tests.right (test_of_bytes ∙ holds))
+
 module _ {bytes : List ℕ} (table : AcceptedTable bytes) where
   accepted_tests : PassedTests (table_layout ages) (values_inside (settings_of ages bytes)) bytes
   unfolding opening
@@ -73,11 +98,6 @@ module _ {bytes : List ℕ} (table : AcceptedTable bytes) where
   accepted_ranges = values_in_range (settings_of ages bytes) accepted_tests.holds
 
 -- ---- what stands beside the answer
-
--- what opening gives, where the verdict on the bytes is known
-pub opened_by_lem : (size : ℕ) (bytes : List ℕ) {judged verdict answered : Verdict} {opened : List ℕ} → judged ≡ verdict → answered ≡ verdict
-    → opened ≡ opened_by size verdict bytes → (answered ≡ judged) × (opened ≡ opened_by size judged bytes)
-opened_by_lem size bytes known answers given = rw known (answers, given)
 
 pub opened_when_passed : (size : ℕ) {verdict : Verdict} (bytes : List ℕ) {opened : List ℕ} → opened ≡ opened_by size verdict bytes → verdict ≡ passes → opened ≡ bytes
 opened_when_passed size bytes is passed = is ∙ ap (λ (v : Verdict). opened_by size v bytes) passed

@@ -3,7 +3,7 @@ use Prim.Native.Nat.{ℕ, ◌+◌, ◌-◌, ◌≤◌, ◌<◌}
 use native.Mathlib.Omega.{arith}
 use mathlib.Core.Path.{◌≡◌}
 use mathlib.Core.List.{List, [], ◌∷◌}
-use mathlib.Core.Bool.{Bool, true, ◌&&◌, ◌||◌, and-eq-true_iff}
+use mathlib.Core.Bool.{Bool, true, ◌||◌}
 use lib.Dec.{eqb, leb}
 use lib.ListN.{get_or}
 use lib.IntN.{ℤ, pos, neg_ℤ}
@@ -14,6 +14,7 @@ use Rattle.integers.proofs.Order.{le_z_true, lt_z_true}
 use Rattle.lists.specs.Sum.{sum}
 use Rattle.lists.specs.Count.{every}
 use Rattle.lists.proofs.Every.{each_of_every, each_of_all}
+use Rattle.thermometer.proofs.Ranges.{both_true}
 use Rattle.thermometer.specs.Reading.{from_to, resistance_inside}
 use Rattle.instrument.specs.declared.Side.{Side}
 use Rattle.instrument.specs.declared.Side.TheVariants.{Warm, Cold}
@@ -27,17 +28,14 @@ use Rattle.table.specs.Ranges.{size_to, leasts_inside, thermometer_limits_inside
 use Rattle.table.specs.ValueRanges.{Between, ThermometerRange, ShelfPairsRange, ChannelRange, SettingsRange}
 
 -- ---- one test
-both : (a b : Bool) → (a && b) ≡ true → (a ≡ true) × (b ≡ true)
-both a b holds = (and-eq-true_iff a b).0 holds
-
 pub in_between : {low high x : ℕ} → from_to low high x ≡ true → Between low high x
 in_between {low} {high} {x} holds =
-    let tests = both (leb low x) (leb x high) holds in
+    let tests = both_true (leb low x) (leb x high) holds in
     (leb-true low x tests.0, leb-true x high tests.1)
 
 pub bounded : {m : ℕ} {z : ℤ} → size_to m z ≡ true → Bounded z (pos m)
 bounded {m} {z} holds =
-    let tests = both (le_z (neg_ℤ (pos m)) z) (le_z z (pos m)) holds in
+    let tests = both_true (le_z (neg_ℤ (pos m)) z) (le_z z (pos m)) holds in
     record { low = le_z_true tests.0; high = le_z_true tests.1 }
 
 -- ---- both sides, both targets
@@ -52,9 +50,9 @@ each_target Holds kav wg Wg = wg
 -- ---- one row
 thermometer_in_range : (t : Thermometer) → thermometer_inside t ≡ true → ThermometerRange t
 thermometer_in_range t holds =
-    let r0 = both (resistance_inside t.r0) _ holds in
-    let alpha = both (from_to 3000000 5000000 t.alpha) _ r0.1 in
-    let delta = both (leb t.delta 2000000) _ alpha.1 in
+    let r0 = both_true (resistance_inside t.r0) _ holds in
+    let alpha = both_true (from_to 3000000 5000000 t.alpha) _ r0.1 in
+    let delta = both_true (leb t.delta 2000000) _ alpha.1 in
     let alpha-between : Between 3000000 5000000 t.alpha = in_between alpha.0 in
     record {
       r0 = in_between r0.0;

@@ -2,4 +2,4 @@ pub mod Settings
 pub mod Ranges
 pub mod Opening
 pub mod ValueRanges
-pub mod Steps
+pub mod Opened

@@ -1,10 +1,11 @@
 -- Document 01, "Opening a table", and request W4. Refuses with 1 if the length isn't 1,404, 2 if a tag or length is wrong, 3 if a value or sum is
 -- outside its range. A refusal gives its number and no table.
-use Rattle.std.specs.Prelude.{ℕ, ◌≡◌, List, [], ◌∷◌, Bool, not, eqb, length, replicate}
+use Rattle.std.specs.Prelude.{ℕ, ◌≡◌, Result, Ok, Err, List, [], ◌∷◌, Bool, not, eqb, length, replicate}
 use Rattle.lists.specs.Tests.{Verdict, passes, fails, ◌when◌, first_that_applies}
-use Rattle.fields.specs.Fields.{Field, layout_size, layout_is_right}
-use Rattle.table.specs.declared.Opening.{Opening}
-use Rattle.table.specs.declared.Opening.TheVariants.{Accepted, LengthWrong, FieldWrong, ValueOutside}
+use Rattle.fields.specs.declared.Field.{Field}
+use Rattle.fields.specs.Fields.{layout_size, layout_is_right}
+use Rattle.table.specs.declared.Refusal.{Refusal}
+use Rattle.table.specs.declared.Refusal.TheVariants.{LengthWrong, FieldWrong, ValueOutside}
 use Rattle.table.specs.Settings.{table_layout, settings_of}
 use Rattle.table.specs.Ranges.{values_inside}
 
@@ -15,12 +16,15 @@ ages = 8
 abbrev pub table_size : ℕ
 table_size = layout_size (table_layout ages)
 
--- document 01's number for each case of the code's answer
-abbrev pub verdict_of : Opening → Verdict
-verdict_of Accepted = passes
-verdict_of LengthWrong = fails 1
-verdict_of FieldWrong = fails 2
-verdict_of ValueOutside = fails 3
+-- document 01's number for each case of the code's answer, whatever it opens
+abbrev pub refusal_number : Refusal → ℕ
+refusal_number LengthWrong = 1
+refusal_number FieldWrong = 2
+refusal_number ValueOutside = 3
+
+abbrev pub verdict_of : {Opened : Type 0} → Result Opened Refusal → Verdict
+verdict_of (Ok opened) = passes
+verdict_of (Err refusal) = fails (refusal_number refusal)
 
 -- bytes with this layout, and whether its values are in their ranges
 abbrev pub opening_by : (layout : List Field) (inside : Bool) → List ℕ → Verdict

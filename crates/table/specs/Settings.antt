@@ -1,7 +1,8 @@
 -- Document 01, "The table", and request W4: what a table's 1,404 bytes say. `ages` is how many scans the window has; document 01 has 8.
 use Rattle.std.specs.Prelude.{ℕ, ◌+◌, ◌*◌, List, [], ◌∷◌, ℤ, get_or}
 use Rattle.fields.specs.Numbers.{u16_at, u32_at, i16_at, i32_at}
-use Rattle.fields.specs.Fields.{Field, value_start, field}
+use Rattle.fields.specs.declared.Field.{Field}
+use Rattle.fields.specs.Fields.{value_start, field}
 use Rattle.instrument.specs.declared.Side.{Side}
 use Rattle.instrument.specs.declared.Target.{Target}
 use Rattle.instrument.specs.Instrument.{side_place, target_place}

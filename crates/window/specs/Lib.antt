@@ -3,3 +3,4 @@ pub mod Sums
 pub mod Means
 pub mod Ages
 pub mod Ranges
+pub mod Props
