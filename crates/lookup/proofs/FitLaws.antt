@@ -4,7 +4,7 @@ use Prim.Native.Nat.{ℕ, ◌<◌, ◌≤◌}
 use native.Mathlib.Decide.{dec_lt}
 use native.Mathlib.Omega.{arith}
 use mathlib.Core.Path.{◌≡◌, refl, sym, ap, subst, ◌∙◌}
-use mathlib.Core.Bool.{Bool, true, false, ◌||◌}
+use mathlib.Core.Bool.{Bool, true, false, or-true}
 use mathlib.Core.Logic.{◌⊎◌, inl, inr}
 use lib.IntN.{ℤ, pos, negsuc, ◌*ℤ◌}
 use lib.Signed.{◌≤ℤ◌, ◌<ℤ◌, lt_z, clash_ℤ, ≤ℤ_refl}
@@ -21,7 +21,8 @@ use Rattle.scene.proofs.Delivered.{temperature_of}
 use Rattle.scene.proofs.Ranges.{scene_range}
 use Rattle.scene.proofs.BiasRange.{temperature_low, temperature_high}
 use Rattle.scene.proofs.Placed.{NotOutside, just_not_outside, just_temperature, just_guarded, placed_below, placed_above, placed_between, placed_is_temperature, placed_rises_from, placed_rises_to}
-use Rattle.lookup.specs.Lookup.{found_count, no_count, delivered_with}
+use Rattle.std.specs.Bool.{then_some}
+use Rattle.lookup.specs.Lookup.{found_count, no_count, found_count_or_none, delivered_with}
 use Rattle.lookup.specs.Steps.{count_with}
 use Rattle.lookup.proofs.SearchLaws.{not_both, none_fits, only_one_fits}
 
@@ -98,24 +99,25 @@ module _ {k : Constants} (h : ConstantsRange k) (wanted c : ℕ) (only : (count 
   abbrev fit : ℕ → Bool
   fit count = delivered_with wanted (before_bias k count)
 
-  pub candidate_found : c ≤ 65535 → wanted ≤ 4294967295 → placed k c ≡ pos wanted → found_count c ≡ count_with k wanted
+  candidate_found : c ≤ 65535 → wanted ≤ 4294967295 → placed k c ≡ pos wanted → found_count c ≡ count_with k wanted
   candidate_found inside small is = sym (only_one_fits fit 65536 c (omega arith) (placed_fits h c wanted small is) (λ count below. only count (omega arith)))
 
-  pub candidate_fails : (placed k c ≡ pos wanted → ⊥) → no_count ≡ count_with k wanted
+  candidate_fails : (placed k c ≡ pos wanted → ⊥) → no_count ≡ count_with k wanted
   candidate_fails other = sym (none_fits fit 65536 (λ count below. by_test count (omega arith) (fit count) refl))
     where
       by_test : (count : ℕ) → count ≤ 65535 → (b : Bool) → fit count ≡ b → b ≡ false
       by_test count inside false e = refl
       by_test count inside true e = absurd (other (ap (placed k) (sym (only count inside e)) ∙ fits_placed k count wanted e))
 
+  pub candidate_decides : c ≤ 65535 → wanted ≤ 4294967295 → (test : Bool) → (test ≡ true → placed k c ≡ pos wanted)
+      → (test ≡ false → placed k c ≡ pos wanted → ⊥) → found_count_or_none (then_some test c) ≡ count_with k wanted
+  candidate_decides inside small true holds fails = candidate_found inside small (holds refl)
+  candidate_decides inside small false holds fails = candidate_fails (fails refl)
+
 -- ---- no count has a T that the guard refuses: 0, or above 16,777,215
 guard_refuses : (wanted : ℕ) → (wanted ≡ 0) ⊎ (16777215 < wanted) → guard_fails (pos wanted) ≡ true
 guard_refuses wanted (inl none) = rw none refl
-guard_refuses wanted (inr above) = rw (below_test (natural_below above)) (or_true (lt_z (pos wanted) (pos 1)))
-  where
-    or_true : (b : Bool) → (b || true) ≡ true
-    or_true true = refl
-    or_true false = refl
+guard_refuses wanted (inr above) = rw (below_test (natural_below above)) (or-true (lt_z (pos wanted) (pos 1)))
 
 pub none_beyond_guard : (k : Constants) (wanted : ℕ) → (wanted ≡ 0) ⊎ (16777215 < wanted) → count_with k wanted ≡ no_count
 none_beyond_guard k wanted beyond = none_fits (λ count. delivered_with wanted (before_bias k count)) 65536 (λ count below. by_test count (delivered_with wanted (before_bias k count)) refl)

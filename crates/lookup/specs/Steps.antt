@@ -1,5 +1,5 @@
 -- What the private functions give. A reader of the promises can leave this out.
-use Rattle.std.specs.Prelude.{ℕ, zero, suc, ◌*◌}
+use Rattle.std.specs.Prelude.{ℕ}
 use Rattle.scene.specs.declared.Constants.{Constants}
 use Rattle.scene.specs.BeforeBias.{before_bias}
 use Rattle.lists.specs.Tests.{passes}
@@ -8,8 +8,3 @@ use Rattle.lookup.specs.Lookup.{Found, found_if}
 -- the count behind a wanted T in a channel with flag 0
 abbrev pub count_with : Constants → (wanted : ℕ) → Found
 count_with k wanted = found_if passes (before_bias k) wanted
-
--- 2^n
-unfoldable pub power : ℕ → ℕ
-power zero = 1
-power (suc n) = 2 * power n

@@ -8,6 +8,7 @@ use mathlib.Core.Bool.{cond}
 use lib.Dec.{eqb}
 use lib.ListN.{take, drop}
 use lib.Seq.{take_at}
+use Rattle.std.specs.Prelude.{Some}
 use Rattle.lists.specs.Tests.{Verdict, passes, fails}
 use Rattle.lists.proofs.Tabulate.{tabulate_same}
 use Rattle.table.specs.Settings.{Settings}
@@ -15,7 +16,7 @@ use Rattle.instrument.specs.Instrument.{channels, shelf_of}
 use Rattle.acceptance.specs.declared.Scan.{Scan}
 use Rattle.record.specs.Record.{scan_number, earth_counts, shelf_temperatures, shelf_temperature}
 use Rattle.acceptance.specs.Kept.{kept_scan}
-use Rattle.scene.specs.declared.Channel.{Channel}
+use Rattle.scene.specs.Channel.{Channel}
 use Rattle.window.specs.declared.Means.{Means}
 use Rattle.window.specs.Sums.{means_of}
 use Rattle.window.specs.Means.{channel_state_of}
@@ -30,7 +31,6 @@ use Rattle.promise.specs.Promise.{SameScan, SameOutcome}
 use Rattle.promise.proofs.RollLaws.{scan_of_age}
 use Rattle.promise.proofs.SampleLaws.{means_at_is}
 use Rattle.promise.specs.Outcomes.{fed_moment, outcome_by}
-use Rattle.lastscan.specs.LastScan.{kept_of}
 use Rattle.promise.proofs.HistoryLaws.{last_of}
 
 refused_not_delivered : (n k : ℕ) → refused n ≡ delivered k → ⊥
@@ -65,9 +65,9 @@ module _ (s : Settings) where
 
   joined_same : (scan other : List ℕ) (roll rolled : Roll) → SameScan s scan other → SameRolls roll rolled → SameRolls (scan ∷ roll) (other ∷ rolled)
   joined_same scan other roll rolled e h = record {
-    last = e.number;
+    last = ap Some e.number;
     scans = joined_scans scan other roll rolled e h.scans;
-    kept = ap kept_of (joined_channels scan other roll rolled e h);
+    kept = ap Some (joined_channels scan other roll rolled e h);
   }
 
   pub same_rolls : (v : Verdict) (roll rolled : Roll) (feed other : Feed) → (v ≡ passes → SameScan s feed.scan other.scan) → SameRolls roll rolled

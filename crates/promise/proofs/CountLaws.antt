@@ -9,10 +9,12 @@ use lib.Dec.{eqb}
 use lib.IntN.{ℤ, pos, ◌-ℤ◌}
 use lib.Signed.{◌<ℤ◌}
 use borrow.Author.Tests.{eqb-true, eq-eqb, le-leb}
+use lib.ListN.{get_or}
+use Rattle.std.specs.Prelude.{None, Some, Ok}
 use Rattle.lists.specs.All.{All}
 use Rattle.lists.specs.Tests.{Verdict}
 use Rattle.lists.proofs.Tabulate.{get_d_tabulate}
-use Rattle.instrument.specs.Instrument.{channels}
+use Rattle.instrument.specs.Instrument.{channels, target_of}
 use Rattle.thermometer.specs.Reading.{from_to}
 use Rattle.table.specs.declared.Table.{Table}
 use Rattle.table.specs.Settings.{Settings, settings_of}
@@ -23,18 +25,20 @@ use Rattle.bias.specs.Bias.{zero_bias}
 use Rattle.bias.proofs.Zeros.{zero_bias_accepted}
 use Rattle.window.specs.Means.{Tw, Tc, constants_of, channel_state_of}
 use Rattle.scene.specs.declared.Constants.{Constants}
-use Rattle.scene.specs.declared.Channel.{Channel}
+use Rattle.scene.specs.Channel.{Channel, channel_flag}
+use Rattle.scene.proofs.Channels.{channel_unflagged, flag_of_channel}
 use Rattle.scene.specs.Ranges.{ConstantsRange}
 use Rattle.scene.specs.Temperature.{temperature}
 use Rattle.scene.specs.BeforeBias.{TOrMark, just_t, flagged_mark, by_tests, before_bias}
 use Rattle.scene.proofs.Delivered.{N_is_numerator}
 use Rattle.scene.proofs.Rises.{temperature_rises_with_count}
 use Rattle.scene.proofs.Placed.{just_not_outside, just_temperature}
+use Rattle.window.proofs.FlagLaws.{flag_at_most_four}
 use Rattle.product.specs.Scenes.{no_channel}
-use Rattle.lastscan.specs.declared.LastScan.{LastScan}
-use Rattle.lastscan.specs.LastScan.{nothing_kept, kept_of, channel_in}
+use Rattle.product.specs.Ranges.{ChannelRange}
+use Rattle.lastscan.specs.LastScan.{LastScan}
 use Rattle.lastscan.specs.Ranges.{LastRange}
-use Rattle.lookup.specs.Lookup.{Found, found_count, delivered_with, lookup_verdict, found_if, count_that, count_behind}
+use Rattle.lookup.specs.Lookup.{Found, found_count, delivered_with, lookup_verdict, found_if, count_that, scenes_before_bias, count_behind}
 use Rattle.lookup.proofs.SearchLaws.{not_both, none_found, found_fits, only_one_fits}
 use Rattle.lookup.proofs.FitLaws.{fits_just, just_fits, only_count_fits}
 use Rattle.lookup.proofs.AnswerLaws.{found_outside, found_not_calibrated, found_calibrated}
@@ -67,31 +71,29 @@ module _ (s : Settings) (m : Moment) (c : ℕ) where
       (ap (λ n. by_tests n (d_at s m c) (temperature (Tc channel) (Tw sums channel -ℤ Tc channel) (tnl_at s m c) (d_at s m c) n)) (sym (N_is_numerator constants_at (pos sums.Ww) (pos sums.Wc) (pos sums.Ac) count refl refl)))
 
   module _ (below : c < channels) where
-    kept_state : channel_in (kept_of (channels_at s m)) c ≡ channel_state_of s c (shelf_at s m c) (means_at s m c)
+    abbrev kept : Channel
+    kept = get_or (channels_at s m) c no_channel
+
+    kept_state : kept ≡ channel_state_of s c (shelf_at s m c) (means_at s m c)
     kept_state = get_d_tabulate (λ c. channel_state_of s c (shelf_at s m c) (means_at s m c)) channels c no_channel below
 
-    kept_flag : (channel_in (kept_of (channels_at s m)) c).flag ≡ flag_at s m c
+    kept_flag : channel_flag kept ≡ flag_at s m c
     unfolding channel_state_of
-    kept_flag = ap (λ (channel : Channel). channel.flag) kept_state
+    kept_flag = ap channel_flag kept_state ∙ flag_of_channel (flag_at s m c) constants_at (flag_at_most_four s (target_of c) (means_at s m c))
 
-    kept_constants : flag_at s m c ≡ 0 → (channel_in (kept_of (channels_at s m)) c).constants ≡ constants_at
+    kept_constants : flag_at s m c ≡ 0 → kept ≡ Ok constants_at
     unfolding channel_state_of
-    kept_constants zero_flag = ap (λ (channel : Channel). channel.constants) kept_state ∙ rw (eq-eqb (flag_at s m c) 0 zero_flag) refl
+    kept_constants zero_flag = kept_state ∙ channel_unflagged (flag_at s m c) constants_at zero_flag
 
 -- ---- what the roll says is answered by what is kept of it
 module _ (s : Settings) (channel wanted : ℕ) where
   same_when_outside : (last : LastScan) (accepted : Bool) (flag : ℕ) (scenes : ℕ → TOrMark) → from_to 1 channels channel ≡ false
       → count_behind last channel wanted ≡ found_if (lookup_verdict channel accepted flag) scenes wanted
-  same_when_outside last accepted flag scenes outside =
-      let kept = channel_in last (channel - 1) in
-      found_outside channel last.any kept.flag (before_bias kept.constants) wanted outside ∙ sym (found_outside channel accepted flag scenes wanted outside)
-
-  nothing_answers : (inside : Bool) → from_to 1 channels channel ≡ inside → count_behind nothing_kept channel wanted ≡ answer_of_roll s [] channel wanted
-  unfolding nothing_kept
-  nothing_answers false e = same_when_outside nothing_kept false 0 (λ count. flagged_mark) e
-  nothing_answers true e =
-      let kept = channel_in nothing_kept (channel - 1) in
-      found_not_calibrated channel false kept.flag (before_bias kept.constants) wanted e refl ∙ sym (found_not_calibrated channel false 0 (λ count. flagged_mark) wanted e refl)
+  same_when_outside None accepted flag scenes outside =
+      found_outside channel false 0 (λ count. flagged_mark) wanted outside ∙ sym (found_outside channel accepted flag scenes wanted outside)
+  same_when_outside (Some all) accepted flag scenes outside =
+      let kept = get_or all (channel - 1) no_channel in
+      found_outside channel true (channel_flag kept) (scenes_before_bias kept) wanted outside ∙ sym (found_outside channel accepted flag scenes wanted outside)
 
   module _ (scan : List ℕ) (roll : Roll) where
     abbrev m : Moment
@@ -100,27 +102,26 @@ module _ (s : Settings) (channel wanted : ℕ) where
     abbrev c : ℕ
     c = channel - 1
 
-    abbrev kept : Channel
-    kept = channel_in (kept_of (channels_at s m)) c
-
     by_flag : (unflagged : Bool) → eqb (flag_at s m c) 0 ≡ unflagged → from_to 1 channels channel ≡ true → c < channels
-        → count_behind (kept_of (channels_at s m)) channel wanted ≡ answer_of_roll s (scan ∷ roll) channel wanted
+        → count_behind (Some (channels_at s m)) channel wanted ≡ answer_of_roll s (scan ∷ roll) channel wanted
     by_flag false flagged inside below =
-        found_not_calibrated channel true kept.flag (before_bias kept.constants) wanted inside (ap (λ (n : ℕ). eqb n 0) (kept_flag s m c below) ∙ flagged)
+        let kept : Channel = get_or (channels_at s m) c no_channel in
+        found_not_calibrated channel true (channel_flag kept) (scenes_before_bias kept) wanted inside (ap (λ (n : ℕ). eqb n 0) (kept_flag s m c below) ∙ flagged)
         ∙ sym (found_not_calibrated channel true (flag_at s m c) (λ count. scene_before_bias s m c (pos count)) wanted inside flagged)
     by_flag true unflagged inside below =
         let zero_flag = eqb-true (flag_at s m c) 0 unflagged in
-        found_calibrated channel true kept.flag (before_bias kept.constants) wanted inside (ap (λ (n : ℕ). eqb n 0) (kept_flag s m c below) ∙ unflagged)
-        ∙ ap (λ (k : Constants). count_that (λ count. delivered_with wanted (before_bias k count)) 65536) (kept_constants s m c below zero_flag)
+        let kept : Channel = get_or (channels_at s m) c no_channel in
+        found_calibrated channel true (channel_flag kept) (scenes_before_bias kept) wanted inside (ap (λ (n : ℕ). eqb n 0) (kept_flag s m c below) ∙ unflagged)
+        ∙ ap (λ (state : Channel). count_that (λ count. delivered_with wanted (scenes_before_bias state count)) 65536) (kept_constants s m c below zero_flag)
         ∙ ap (λ (scenes : ℕ → TOrMark). count_that (λ count. delivered_with wanted (scenes count)) 65536) (fun_ext (scene_of_constants s m c zero_flag))
         ∙ sym (found_calibrated channel true (flag_at s m c) (λ count. scene_before_bias s m c (pos count)) wanted inside unflagged)
 
-    last_answers : (inside : Bool) → from_to 1 channels channel ≡ inside → count_behind (kept_of (channels_at s m)) channel wanted ≡ answer_of_roll s (scan ∷ roll) channel wanted
-    last_answers false e = same_when_outside (kept_of (channels_at s m)) true (flag_at s m c) (λ count. scene_before_bias s m c (pos count)) e
+    last_answers : (inside : Bool) → from_to 1 channels channel ≡ inside → count_behind (Some (channels_at s m)) channel wanted ≡ answer_of_roll s (scan ∷ roll) channel wanted
+    last_answers false e = same_when_outside (Some (channels_at s m)) true (flag_at s m c) (λ count. scene_before_bias s m c (pos count)) e
     last_answers true e = by_flag (eqb (flag_at s m c) 0) refl e (let number : (1 ≤ channel) × (channel ≤ channels) = in_between {low = 1} {high = channels} {x = channel} e in omega arith)
 
   roll_answers : (roll : Roll) → count_behind (last_of s roll) channel wanted ≡ answer_of_roll s roll channel wanted
-  roll_answers [] = nothing_answers (from_to 1 channels channel) refl
+  roll_answers [] = refl
   roll_answers (scan ∷ roll) = last_answers scan roll (from_to 1 channels channel) refl
 
 -- ---- after a list of feeds from a fresh calibrator
@@ -172,7 +173,7 @@ module _ (f : FedChannel) where
   abbrev handed_back : Bias → Calibrator
   handed_back bias = (step (calibrator_after (fresh_of of_table bias) f.before) f.feed).calibrator
 
-  kept_of_fed : (bias : Bias) → (handed_back bias).last ≡ kept_of (channels_at s (moment_of_fed f))
+  kept_of_fed : (bias : Bias) → (handed_back bias).last ≡ Some (channels_at s (moment_of_fed f))
   kept_of_fed bias = kept_by_lem of_table bias f.before f.feed ∙ ap (λ (v : Verdict). last_of s (joined_by v (rolled_by [] f.before) f.feed)) f.feed_accepted
 
   module _ (bytes : FedBytes f) (zero_flag : fed_flag f ≡ 0) where
@@ -180,9 +181,8 @@ module _ (f : FedChannel) where
     constants_fed =
         let bias : Bias = record { bytes = zero_bias } in
         let sound = sound_after_step (sound_after f.before bytes.0 (fresh_is_sound f.table_accepted zero_bias_accepted)) f.feed bytes.1 in
-        let range : LastRange (kept_of (channels_at s (moment_of_fed f))) = subst LastRange (kept_of_fed bias) sound.last in
-        subst ConstantsRange (kept_constants s (moment_of_fed f) f.channel f.is_channel zero_flag)
-        ((range.kept refl f.channel f.is_channel).constants (kept_flag s (moment_of_fed f) f.channel f.is_channel ∙ zero_flag))
+        let range : LastRange (Some (channels_at s (moment_of_fed f))) = subst LastRange (kept_of_fed bias) sound.last in
+        subst ChannelRange (kept_constants s (moment_of_fed f) f.channel f.is_channel zero_flag) (range.each f.channel f.is_channel)
 
   -- a delivered scene has flag 0
   just_by_flag : (unflagged : Bool) (x : TOrMark) (t : ℤ) → cond unflagged x flagged_mark ≡ just_t t → unflagged ≡ true

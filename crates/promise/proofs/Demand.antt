@@ -20,11 +20,11 @@ use Rattle.calibrator.specs.Refusals.{delivered, refused}
 use Rattle.calibrator.specs.Feeding.{Feed, Outcome, Stepped, step}
 use Rattle.lists.proofs.Tests.{passes_is_no_failure, failure_number}
 use Rattle.product.specs.Product.{product_size}
-use Rattle.promise.specs.Roll.{Roll, last_number, verdict_at, joined_by, joined}
+use Rattle.promise.specs.Roll.{Roll, verdict_at, joined_by, joined}
 use Rattle.promise.specs.Moments.{Moment, current_number, channels_at, product_at}
 use Rattle.record.specs.Record.{earth_counts}
 use Rattle.promise.specs.Promise.{AcceptedClaim, FeedClaim, Each, Alike, SameOutcome, SameProducts, DemandThree}
-use Rattle.promise.proofs.RollLaws.{NumbersTo}
+use Rattle.promise.proofs.RollLaws.{NumbersToLast}
 use Rattle.promise.proofs.SceneClaims.{scene_claim, delivered_in_lem}
 use Rattle.promise.specs.Outcomes.{fed_moment, written_at, outcome_by}
 use Rattle.promise.proofs.AlikeLaws.{SameRolls, same_rolls, same_outcome}
@@ -69,7 +69,7 @@ module _ (table : Table) (accepted : AcceptedTable table.bytes) (bias : Bias) (f
   }
 
   -- ---- a list of feeds
-  each_from : (feeds : List Feed) (roll : Roll) → NumbersTo roll (last_number roll) → Each (FeedClaim s bias.bytes) roll (calibrator_of table bias roll) feeds
+  each_from : (feeds : List Feed) (roll : Roll) → NumbersToLast roll → Each (FeedClaim s bias.bytes) roll (calibrator_of table bias roll) feeds
   unfolding Each
   each_from [] roll numbers = tt
   each_from (feed ∷ more) roll numbers =
@@ -78,7 +78,7 @@ module _ (table : Table) (accepted : AcceptedTable table.bytes) (bias : Bias) (f
         subst (λ (c : Calibrator). Each (FeedClaim s bias.bytes) (joined roll feed) c more) (sym handed) (each_from more (joined roll feed) (numbers_joined (verdict_at roll feed) roll feed refl numbers)),
       )
 
-  alike_from : (feeds others : List Feed) (roll rolled : Roll) → NumbersTo roll (last_number roll) → NumbersTo rolled (last_number rolled) → SameRolls s roll rolled
+  alike_from : (feeds others : List Feed) (roll rolled : Roll) → NumbersToLast roll → NumbersToLast rolled → SameRolls s roll rolled
       → Alike s roll rolled feeds others → SameProducts (calibrator_of table bias roll) (calibrator_of table bias rolled) feeds others
   unfolding Alike SameProducts
   alike_from [] [] roll rolled numbers others same e = tt

@@ -4,10 +4,11 @@ use Prim.Native.Nat.{ℕ, ◌+◌, ◌<◌, ◌≤◌}
 use native.Mathlib.Omega.{arith}
 use mathlib.Core.Path.{◌≡◌, refl, sym, ap, ◌∙◌}
 use mathlib.Core.List.{List, [], ◌∷◌, ◌++◌}
-use mathlib.Core.Bool.{Bool, true, false, ◌&&◌, cond}
-use lib.Dec.{eqb, leb, ltb}
+use mathlib.Core.Bool.{Bool, true, false, cond}
+use lib.Dec.{eqb, ltb}
 use lib.ListN.{length, drop}
 use borrow.Author.Tests.{ne_eqb, lt-leb, ltb-false}
+use Rattle.std.specs.Prelude.{None, Some, IfSome}
 use Rattle.lists.specs.Tests.{Verdict, passes, fails}
 use Rattle.fields.specs.Fields.{layout_size, layout_is_right}
 use Rattle.lists.proofs.Tabulate.{tabulate_same}
@@ -18,22 +19,21 @@ use Rattle.table.specs.Opening.{ages}
 use Rattle.acceptance.specs.declared.Scan.{Scan}
 use Rattle.record.specs.Record.{record_layout, scan_number, earth_counts}
 use Rattle.window.specs.declared.Window.{Window}
-use Rattle.scene.specs.declared.Channel.{Channel}
+use Rattle.scene.specs.Channel.{Channel}
 use Rattle.window.specs.Sums.{means_of, means_in}
 use Rattle.window.specs.Means.{channel_state_of}
 use Rattle.window.proofs.AgeLaws.{ScanShape, means_of_scans}
 use Rattle.bias.specs.declared.Bias.{Bias}
 use Rattle.product.specs.Scenes.{Deliver, by_bias}
 use Rattle.product.specs.Product.{product_layout, product_of, delivered_count}
-use Rattle.lastscan.specs.LastScan.{kept_of}
 use Rattle.calibrator.specs.declared.Calibrator.{Calibrator}
-use Rattle.calibrator.specs.Refusals.{delivered}
+use Rattle.calibrator.specs.Refusals.{not_above, delivered}
 use Rattle.calibrator.specs.Feeding.{Feed, kept_by, fresh_of, step, calibrator_after, outcome_after}
-use Rattle.promise.specs.Roll.{Roll, begun, last_number, verdict_at, joined_by, joined}
+use Rattle.promise.specs.Roll.{Roll, last_number, verdict_at, joined_by, joined}
 use Rattle.promise.specs.Moments.{shelf_at, channels_at}
 use Rattle.promise.specs.Restart.{rolled_by, recent, feeds_of, Restart}
 use Rattle.calibrator.proofs.Verdicts.{verdict_passes, passes_facts}
-use Rattle.promise.proofs.RollLaws.{scan_of_age, NumbersTo}
+use Rattle.promise.proofs.RollLaws.{scan_of_age, NumbersToLast}
 use Rattle.promise.proofs.SampleLaws.{means_at_is}
 use Rattle.promise.specs.Outcomes.{fed_moment, outcome_by, outcome_at}
 use Rattle.promise.proofs.HistoryLaws.{last_of, calibrator_of, by_age_shape, window_same, numbers_joined, calibrator_after_lem, outcome_after_lem, fresh_is_empty_roll}
@@ -52,18 +52,18 @@ below_further [] h k = tt
 below_further (scan ∷ roll) h k = (omega (arith, h, k.0), below_further roll h k.1)
 
 -- the last number of a roll is its greatest
-below_when_last : (roll : Roll) (n : ℕ) → Made roll → (begun roll ≡ true → last_number roll < n) → NumbersBelow roll n
+below_when_last : (roll : Roll) (n : ℕ) → Made roll → IfSome (last_number roll) (λ last. last < n) → NumbersBelow roll n
 below_when_last [] n made above = tt
-below_when_last (scan ∷ roll) n made above = (above refl, below_further roll (omega (arith, above refl)) made.1.0)
+below_when_last (scan ∷ roll) n made above = (above, below_further roll (omega (arith, above)) made.1.0)
 
-last_when_below : (roll : Roll) (n : ℕ) → NumbersBelow roll n → (begun roll && leb n (last_number roll)) ≡ false
-last_when_below [] n below = refl
-last_when_below (scan ∷ roll) n below = lt-leb n (scan_number scan) below.0
+last_when_below : (roll : Roll) (scan : List ℕ) → NumbersBelow roll (scan_number scan) → not_above (last_number roll) scan ≡ false
+last_when_below [] scan below = refl
+last_when_below (last ∷ roll) scan below = lt-leb (scan_number scan) (scan_number last) below.0
 
 made_joined : (v : Verdict) (roll : Roll) (feed : Feed) → verdict_at roll feed ≡ v → Made roll → Made (joined_by v roll feed)
 made_joined (fails n) roll feed e made = made
 made_joined passes roll feed e made =
-    let passed = passes_facts (begun roll) (last_number roll) feed.scan (length feed.buffer) e in
+    let passed = passes_facts (last_number roll) feed.scan (length feed.buffer) e in
     ((passed.long, passed.right), (below_when_last roll (scan_number feed.scan) made passed.above, made))
 
 made_by : (feeds : List Feed) (roll : Roll) → Made roll → Made (rolled_by roll feeds)
@@ -99,7 +99,7 @@ rolled_append (feed ∷ feeds) more roll = rolled_append feeds more (joined roll
 module _ (buffer : List ℕ) (room : layout_size product_layout ≤ length buffer) where
   again_passes : (scan : List ℕ) (roll : Roll) → Made (scan ∷ roll) → verdict_at roll (record { scan = scan; buffer = buffer }) ≡ passes
   again_passes scan roll made =
-      verdict_passes (begun roll) (last_number roll) scan (length buffer) made.0.0 made.0.1 (last_when_below roll (scan_number scan) made.1.0) room
+      verdict_passes (last_number roll) scan (length buffer) made.0.0 made.0.1 (last_when_below roll scan made.1.0) room
 
   again_rolls : (roll : Roll) → Made roll → rolled_by [] (feeds_of buffer roll) ≡ roll
   unfolding rolled_by feeds_of
@@ -126,9 +126,9 @@ module _ (s : Settings) where
 
   means_same : s.ages ≤ ages → (f g : ℕ → Scan) → ((k : ℕ) → ScanShape (f k)) → ((k : ℕ) → ScanShape (g k)) → ((k : ℕ) → k < ages → f k ≡ g k) → (c : ℕ) → c < channels → means_of s f c ≡ means_of s g c
   means_same few f g shapes others e c inside =
-      sym (means_of_scans s few true 0 f shapes c inside)
-      ∙ ap (λ (w : Window). means_in s w c) (window_same true 0 f g e)
-      ∙ means_of_scans s few true 0 g others c inside
+      sym (means_of_scans s few None f shapes c inside)
+      ∙ ap (λ (w : Window). means_in s w c) (window_same None f g e)
+      ∙ means_of_scans s few None g others c inside
 
   joined_recent : (scan : List ℕ) (roll : Roll) (k : ℕ) → k < ages
       → scan_of_age s (scan ∷ roll) (scan_number scan) k ≡ scan_of_age s (scan ∷ recent (scan_number scan) roll) (scan_number scan) k
@@ -148,9 +148,9 @@ module _ (s : Settings) where
 recent_passes : (feed : Feed) (roll : Roll) → Made roll → verdict_at roll feed ≡ passes → verdict_at (recent (scan_number feed.scan) roll) feed ≡ passes
 recent_passes feed roll made e =
     let number = scan_number feed.scan in
-    let passed = passes_facts (begun roll) (last_number roll) feed.scan (length feed.buffer) e in
+    let passed = passes_facts (last_number roll) feed.scan (length feed.buffer) e in
     let older = below_when_last roll number made passed.above in
-    verdict_passes (begun (recent number roll)) (last_number (recent number roll)) feed.scan (length feed.buffer) passed.long passed.right (last_when_below (recent number roll) number (recent_below number roll number older)) passed.room
+    verdict_passes (last_number (recent number roll)) feed.scan (length feed.buffer) passed.long passed.right (last_when_below (recent number roll) feed.scan (recent_below number roll number older)) passed.room
 
 -- and it leaves the same channels
 recent_kept : (s : Settings) → s.ages ≤ ages → (feed : Feed) (roll : Roll) → Made roll → verdict_at roll feed ≡ passes
@@ -158,7 +158,7 @@ recent_kept : (s : Settings) → s.ages ≤ ages → (feed : Feed) (roll : Roll)
 recent_kept s few feed roll made e =
     let older = recent (scan_number feed.scan) roll in
     ap (λ (v : Verdict). last_of s (joined_by v roll feed)) e
-    ∙ ap kept_of (channels_recent s few feed.scan roll)
+    ∙ ap Some (channels_recent s few feed.scan roll)
     ∙ sym (ap (λ (v : Verdict). last_of s (joined_by v older feed)) (recent_passes feed roll made e))
 
 -- ---- the law
@@ -169,14 +169,14 @@ module _ (table : Table) (bias : Bias) where
   abbrev of_bias : ℕ → Deliver
   of_bias = by_bias bias.bytes
 
-  pub after_is : (feeds : List Feed) (roll : Roll) → NumbersTo roll (last_number roll) → calibrator_after (calibrator_of table bias roll) feeds ≡ calibrator_of table bias (rolled_by roll feeds)
+  pub after_is : (feeds : List Feed) (roll : Roll) → NumbersToLast roll → calibrator_after (calibrator_of table bias roll) feeds ≡ calibrator_of table bias (rolled_by roll feeds)
   unfolding calibrator_after rolled_by
   after_is [] roll numbers = refl
   after_is (feed ∷ more) roll numbers =
       ap (λ (c : Calibrator). calibrator_after c more) (calibrator_after_lem table bias roll feed numbers)
       ∙ after_is more (joined roll feed) (numbers_joined (verdict_at roll feed) roll feed refl numbers)
 
-  numbers_by : (feeds : List Feed) (roll : Roll) → NumbersTo roll (last_number roll) → NumbersTo (rolled_by roll feeds) (last_number (rolled_by roll feeds))
+  numbers_by : (feeds : List Feed) (roll : Roll) → NumbersToLast roll → NumbersToLast (rolled_by roll feeds)
   unfolding rolled_by
   numbers_by [] roll numbers = numbers
   numbers_by (feed ∷ more) roll numbers = numbers_by more (joined roll feed) (numbers_joined (verdict_at roll feed) roll feed refl numbers)

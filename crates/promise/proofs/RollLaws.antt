@@ -7,23 +7,33 @@ use mathlib.Core.List.{List, [], ◌∷◌}
 use mathlib.Core.Bool.{Bool, true, false, cond}
 use lib.Dec.{eqb, ltb}
 use borrow.Author.Tests.{eq-eqb, ne_eqb, lt-ltb, le-ltb, eqb-true, eqb-false, ltb-false}
+use Rattle.std.specs.Prelude.{IfSome}
 use Rattle.table.specs.Settings.{Settings}
 use Rattle.table.specs.Opening.{ages}
 use Rattle.record.specs.Record.{scan_number}
 use Rattle.window.specs.Ages.{no_scan, aged, gap_between}
 use Rattle.calibrator.specs.Feeding.{kept_by}
 use Rattle.acceptance.specs.declared.Scan.{Scan}
-use Rattle.promise.specs.Roll.{Roll, begun, last_number}
+use Rattle.promise.specs.Roll.{Roll, last_number}
 
 -- what the record with age k keeps of its accepted samples; a missing number has none
 unfoldable pub scan_of_age : Settings → Roll → ℕ → ℕ → Scan
 scan_of_age s [] number k = no_scan
 scan_of_age s (scan ∷ roll) number k = cond (eqb (scan_number scan + k) number) (kept_by s scan) (scan_of_age s roll number k)
 
+-- what the scans of a roll keep, by their ages at its last record
+abbrev pub scans_of : Settings → Roll → ℕ → Scan
+scans_of s [] k = no_scan
+scans_of s (scan ∷ roll) k = scan_of_age s (scan ∷ roll) (scan_number scan) k
+
 -- every record's number is at most n
 abbrev pub NumbersTo : Roll → ℕ → Type 0
 NumbersTo [] n = Unit {0}
 NumbersTo (scan ∷ roll) n = (scan_number scan ≤ n) × NumbersTo roll n
+
+-- no record's number is above that of the last
+abbrev pub NumbersToLast : Roll → Type 0
+NumbersToLast roll = IfSome (last_number roll) (NumbersTo roll)
 
 pub numbers_further : (roll : Roll) {m n : ℕ} → m ≤ n → NumbersTo roll m → NumbersTo roll n
 numbers_further [] h k = tt
@@ -63,55 +73,55 @@ module _ (s : Settings) where
   not_newest scan roll k = rw (ne_eqb (scan_number scan + suc k) (scan_number scan) (λ e. omega arith))
 
   -- ---- the scans by age once a record has joined
-  module _ (scan : List ℕ) (roll : Roll) (numbers : NumbersTo roll (last_number roll)) where
+  module _ (scan : List ℕ) (roll : Roll) (last : ℕ) (numbers : NumbersTo roll last) where
     ByAge : ℕ → ℕ → Type 0
-    ByAge gap k = aged gap (kept_by s scan) (λ j. scan_of_age s roll (last_number roll) j) k ≡ scan_of_age s (scan ∷ roll) (scan_number scan) k
+    ByAge gap k = aged gap (kept_by s scan) (λ j. scan_of_age s roll last j) k ≡ scan_of_age s (scan ∷ roll) (scan_number scan) k
 
     older : (k : ℕ) → eqb (suc k) 0 ≡ false
     older k = ne_eqb (suc k) 0 (λ e. omega arith)
 
     -- no record is that old yet
-    missing_between : (gap k : ℕ) → suc k < gap → last_number roll + suc k < scan_number scan → ByAge gap (suc k)
+    missing_between : (gap k : ℕ) → suc k < gap → last + suc k < scan_number scan → ByAge gap (suc k)
     unfolding aged ByAge
     missing_between gap k early late =
         rw (older k, lt-ltb (suc k) gap early)
-        (sym (not_newest scan roll k ∙ age_missing roll (last_number roll) (scan_number scan) (suc k) numbers late))
+        (sym (not_newest scan roll k ∙ age_missing roll last (scan_number scan) (suc k) numbers late))
 
     -- the record that was younger by the gap
-    found_older : (k : ℕ) → last_number roll < scan_number scan → scan_number scan - last_number roll ≤ suc k → ByAge (scan_number scan - last_number roll) (suc k)
+    found_older : (k : ℕ) → last < scan_number scan → scan_number scan - last ≤ suc k → ByAge (scan_number scan - last) (suc k)
     unfolding aged ByAge
     found_older k above reached =
-        let g = scan_number scan - last_number roll in
-        let e : last_number roll + g ≡ scan_number scan = omega arith in
+        let g = scan_number scan - last in
+        let e : last + g ≡ scan_number scan = omega arith in
         rw (older k, le-ltb (suc k) g reached)
-        (sym (not_newest scan roll k ∙ ap (λ n. scan_of_age s roll n (suc k)) (sym e) ∙ older_by roll (last_number roll) g (suc k) reached))
+        (sym (not_newest scan roll k ∙ ap (λ n. scan_of_age s roll n (suc k)) (sym e) ∙ older_by roll last g (suc k) reached))
 
     age_zero : (gap : ℕ) → ByAge gap 0
     unfolding aged ByAge
     age_zero gap = sym (newest scan roll)
 
     -- by the distance of the numbers
-    near : (k : ℕ) → last_number roll < scan_number scan → ByAge (scan_number scan - last_number roll) (suc k)
-    near k above = go (dec_lt (suc k) (scan_number scan - last_number roll))
+    near : (k : ℕ) → last < scan_number scan → ByAge (scan_number scan - last) (suc k)
+    near k above = go (dec_lt (suc k) (scan_number scan - last))
       where
-        go : Dec (suc k < scan_number scan - last_number roll) → ByAge (scan_number scan - last_number roll) (suc k)
-        go (yes early) = missing_between (scan_number scan - last_number roll) k early (omega arith)
+        go : Dec (suc k < scan_number scan - last) → ByAge (scan_number scan - last) (suc k)
+        go (yes early) = missing_between (scan_number scan - last) k early (omega arith)
         go (no late) = found_older k above (omega (arith, late))
 
-    by_gap : (k : ℕ) → k < ages → last_number roll < scan_number scan → (t : Bool) → ltb (scan_number scan - last_number roll) ages ≡ t → ByAge (cond t (scan_number scan - last_number roll) ages) k
-    by_gap zero inside above t e = age_zero (cond t (scan_number scan - last_number roll) ages)
+    by_gap : (k : ℕ) → k < ages → last < scan_number scan → (t : Bool) → ltb (scan_number scan - last) ages ≡ t → ByAge (cond t (scan_number scan - last) ages) k
+    by_gap zero inside above t e = age_zero (cond t (scan_number scan - last) ages)
     by_gap (suc k) inside above true e = near k above
-    by_gap (suc k) inside above false e = missing_between ages k inside (omega (arith, ltb-false (scan_number scan - last_number roll) ages e))
+    by_gap (suc k) inside above false e = missing_between ages k inside (omega (arith, ltb-false (scan_number scan - last) ages e))
 
 -- a first record has none before it
-first_alone : (s : Settings) (scan : List ℕ) (k : ℕ) → k < ages → aged ages (kept_by s scan) (λ j. scan_of_age s [] 0 j) k ≡ scan_of_age s (scan ∷ []) (scan_number scan) k
+first_alone : (s : Settings) (scan : List ℕ) (k : ℕ) → k < ages → aged ages (kept_by s scan) (scans_of s []) k ≡ scan_of_age s (scan ∷ []) (scan_number scan) k
 unfolding aged scan_of_age
 first_alone s scan zero inside = sym (newest s scan [])
 first_alone s scan (suc k) inside = rw (ne_eqb (suc k) 0 (λ e. omega arith), lt-ltb (suc k) ages inside) (sym (not_newest s scan [] k))
 
 -- what the scans of each age are once a record has joined
-pub aged_roll : (s : Settings) (scan : List ℕ) (roll : Roll) → NumbersTo roll (last_number roll) → (begun roll ≡ true → last_number roll < scan_number scan) → (k : ℕ) → k < ages
-    → aged (gap_between (begun roll) (last_number roll) (scan_number scan)) (kept_by s scan) (λ j. scan_of_age s roll (last_number roll) j) k ≡ scan_of_age s (scan ∷ roll) (scan_number scan) k
+pub aged_roll : (s : Settings) (scan : List ℕ) (roll : Roll) → NumbersToLast roll → IfSome (last_number roll) (λ n. n < scan_number scan) → (k : ℕ) → k < ages
+    → aged (gap_between (last_number roll) (scan_number scan)) (kept_by s scan) (scans_of s roll) k ≡ scan_of_age s (scan ∷ roll) (scan_number scan) k
 unfolding ByAge
 aged_roll s scan [] numbers above k inside = first_alone s scan k inside
-aged_roll s scan (before ∷ roll) numbers above k inside = by_gap s scan (before ∷ roll) numbers k inside (above refl) (ltb (scan_number scan - scan_number before) ages) refl
+aged_roll s scan (before ∷ roll) numbers above k inside = by_gap s scan (before ∷ roll) (scan_number before) numbers k inside above (ltb (scan_number scan - scan_number before) ages) refl

@@ -32,7 +32,9 @@ use Rattle.acceptance.specs.Kept.{least_kelvin, KelvinRange}
 use Rattle.acceptance.proofs.Ranges.{kept_scan_kelvins}
 use Rattle.nonlinearity.proofs.InterpolationLaws.{unrounded_above, tnl_within_half, tnl_bounded}
 use Rattle.window.specs.declared.Means.{Means}
-use Rattle.scene.specs.declared.Channel.{Channel}
+use Rattle.std.specs.Prelude.{Ok}
+use Rattle.scene.specs.Channel.{Channel}
+use Rattle.scene.proofs.Channels.{channel_unflagged, channel_flagged, constants_of_channel}
 use Rattle.window.specs.Ages.{no_scan}
 use Rattle.window.specs.Sums.{means_from}
 use Rattle.window.specs.Means.{Tw, Tc, D, flag_of, constants_of, channel_state_of}
@@ -114,16 +116,16 @@ mean_at s m c below =
 module _ (s : Settings) (c : ℕ) (shelf : ℤ) (m : Means) where
   pub flag_zero_scene : (deliver : ℤ → ℤ) (count : ℕ) → flag_of s (target_of c) m ≡ 0 → scene_in deliver (channel_state_of s c shelf m) count ≡ scene_of deliver (constants_of m (s.channel c) shelf) count
   unfolding scene_in channel_state_of
-  flag_zero_scene deliver count e = rw e
+  flag_zero_scene deliver count e = ap (λ (channel : Channel). scene_in deliver channel count) (channel_unflagged (flag_of s (target_of c) m) (constants_of m (s.channel c) shelf) e)
 
   pub flagged_scene : (deliver : ℤ → ℤ) (count : ℕ) → eqb (flag_of s (target_of c) m) 0 ≡ false → scene_in deliver (channel_state_of s c shelf m) count ≡ Flagged
   unfolding scene_in channel_state_of
-  flagged_scene deliver count e = rw e
+  flagged_scene deliver count e = ap (λ (channel : Channel). scene_in deliver channel count) (channel_flagged (flag_of s (target_of c) m) (constants_of m (s.channel c) shelf) e)
 
   -- what holds of the constants of a channel with flag 0 holds of its state
-  flag_zero_constants : (P : Constants → Type 0) → (flag_of s (target_of c) m ≡ 0 → P (constants_of m (s.channel c) shelf)) → (channel_state_of s c shelf m).flag ≡ 0 → P (channel_state_of s c shelf m).constants
+  flag_zero_constants : (P : Constants → Type 0) → (flag_of s (target_of c) m ≡ 0 → P (constants_of m (s.channel c) shelf)) → (k : Constants) → channel_state_of s c shelf m ≡ Ok k → P k
   unfolding channel_state_of
-  flag_zero_constants P holds e = rw (eq-eqb (flag_of s (target_of c) m) 0 e) (holds e)
+  flag_zero_constants P holds k is = let own = constants_of_channel (flag_of s (target_of c) m) (constants_of m (s.channel c) shelf) k is in subst P own.1 (holds own.0)
 
 -- ---- the rules of document 01 are flag 0 and the tests of a scene
 module _ (s : Settings) (m : Moment) (c i : ℕ) where

@@ -15,7 +15,7 @@ use Rattle.instrument.specs.Instrument.{channels, positions, target_of, shelf_of
 use Rattle.record.specs.Record.{scan_number, earth_counts, earth_part, shelf_temperatures, shelf_temperature}
 use Rattle.nonlinearity.specs.Interpolation.{unrounded_tnl, tnl_of}
 use Rattle.window.specs.declared.Means.{Means}
-use Rattle.scene.specs.declared.Channel.{Channel}
+use Rattle.scene.specs.Channel.{Channel}
 use Rattle.window.specs.Means.{Tw, Tc, D, too_few_thermometers, too_few_counts, channel_state_of}
 use Rattle.scene.specs.declared.Scene.TheVariants.{Flagged, Outside, Guard}
 use Rattle.scene.specs.Scene.{bits, units_of}

@@ -1,5 +1,5 @@
 -- Document 01, "Lists of feeds": a plain roll says which records count, from the records and the buffer lengths alone.
-use Rattle.std.specs.Prelude.{ℕ, List, [], ◌∷◌, Bool, true, false, length}
+use Rattle.std.specs.Prelude.{ℕ, List, [], ◌∷◌, length, Option, None, Some}
 use Rattle.lists.specs.Tests.{Verdict, passes, fails}
 use Rattle.record.specs.Record.{scan_number}
 use Rattle.calibrator.specs.Refusals.{verdict}
@@ -9,18 +9,14 @@ use Rattle.calibrator.specs.Feeding.{Feed}
 abbrev pub Roll : Type 0
 Roll = List (List ℕ)
 
-abbrev pub begun : Roll → Bool
-begun [] = false
-begun (scan ∷ roll) = true
-
--- the number of the roll's last record
-abbrev pub last_number : Roll → ℕ
-last_number [] = 0
-last_number (scan ∷ roll) = scan_number scan
+-- the number of the roll's last record, if it has one
+abbrev pub last_number : Roll → Option ℕ
+last_number [] = None
+last_number (scan ∷ roll) = Some (scan_number scan)
 
 -- a feed meets 4 to 7 in order, 6 against the number of the roll's last record, and never while the roll is empty
 abbrev pub verdict_at : Roll → Feed → Verdict
-verdict_at roll feed = verdict (begun roll) (last_number roll) feed.scan (length feed.buffer)
+verdict_at roll feed = verdict (last_number roll) feed.scan (length feed.buffer)
 
 -- if none applies, its record joins the roll's end; else the roll stays
 abbrev pub joined_by : Verdict → Roll → Feed → Roll
