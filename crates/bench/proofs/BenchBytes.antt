@@ -7,7 +7,8 @@ use lib.ListN.{get_or, take, drop}
 use Rattle.lists.specs.Build.{cells}
 use Rattle.lists.proofs.Elements.{zero_of_zeros, each_appended, each_of_take, each_of_drop}
 use Rattle.fields.specs.Numbers.{u16_bytes, u32_bytes}
-use Rattle.fields.specs.Fields.{Field, field_at, field_bytes, value_start}
+use Rattle.fields.specs.declared.Field.{Field}
+use Rattle.fields.specs.Fields.{field_at, field_bytes, value_start}
 use Rattle.instrument.specs.Instrument.{channels, positions, thermometers}
 use Rattle.record.specs.Record.{record_layout, record_size, shelves_size}
 use Rattle.bench.specs.Bench.{per_channel, instrument_bytes, shelf_bytes, bench_scan}

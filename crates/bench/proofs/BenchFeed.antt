@@ -15,6 +15,7 @@ use Rattle.nonlinearity.specs.Interpolation.{above_pair, unrounded_tnl, tnl_of}
 use Rattle.window.specs.Ages.{no_scan, window_of, shifted, window_after}
 use Rattle.window.specs.Sums.{weight_sum, value_sum, thermometer_weights, thermometer_sum, means_from}
 use Rattle.window.specs.Means.{flag_of, constants_of, channel_state_of}
+use Rattle.scene.specs.Channel.{channel_with}
 use Rattle.scene.specs.Scene.{scene_of, unbiased}
 use Rattle.product.specs.Scenes.{scene_in, scene_delivered}
 use Rattle.product.specs.Product.{product_of, delivered_count, product_size}
@@ -27,7 +28,7 @@ use Rattle.bench.proofs.FirstFeed.{delivers_t, states_by_kept, Gives, first_pass
 
 -- the channels of what the bench scan keeps
 pub channels_of_kept : (scan : List ℕ) → scan_number scan ≡ 7 → shelf_temperatures scan ≡ shelf_bytes → kept_by bench_settings scan ≡ bench_kept_lem → next_channels bench_calibrator scan ≡ replicate channels bench_channel
-unfolding bench_table shelf_bytes window_of window_after shifted no_scan cells tabulate channel_state_of flag_of constants_of tnl_of unrounded_tnl above_pair means_from weight_sum value_sum thermometer_weights thermometer_sum sum r floor
+unfolding bench_table shelf_bytes window_of window_after shifted no_scan cells tabulate channel_state_of channel_with flag_of constants_of tnl_of unrounded_tnl above_pair means_from weight_sum value_sum thermometer_weights thermometer_sum sum r floor
 channels_of_kept scan number shelves kept = states_by_kept scan bench_kept_lem number shelves kept
 
 pub scene_delivered_lem : scene_delivered (scene_in unbiased bench_channel 15000) ≡ true

@@ -8,7 +8,7 @@ use lib.Seq.{get_or-take, get_or-drop}
 use Rattle.lists.specs.Build.{tabulate}
 use Rattle.lists.proofs.Tabulate.{tabulate_same}
 use Rattle.instrument.specs.Instrument.{channels}
-use Rattle.scene.specs.declared.Channel.{Channel}
+use Rattle.scene.specs.Channel.{channel_flag}
 use Rattle.product.specs.Scenes.{no_channel}
 use Rattle.product.specs.Product.{product_of, product_size}
 use Rattle.product.proofs.Bytes.{number_in_product, flag_in_product}
@@ -60,7 +60,7 @@ flag_listed c below =
     get_or-take channels (drop 10 bench_product) c 0 below
     ∙ get_or-drop 10 bench_product c 0
     ∙ flag_in_product delivers_t 7 _ _ _ c below
-    ∙ ap (λ (channel : Channel). channel.flag) (get_or-replicate channels c bench_channel no_channel below)
+    ∙ ap channel_flag (get_or-replicate channels c bench_channel no_channel below)
 
 pub bench_listing : listed_line bench_calibrator (bench_scan 15000) ≡ ascii "scan 7 delivered 2112 flags 0000000000000000000000\n"
 unfolding listed_line empty_product reply_line

@@ -12,7 +12,6 @@ use Rattle.thermometer.specs.Reading.{not_read, reading}
 use Rattle.table.specs.Ranges.{leasts_inside, values_inside}
 use Rattle.table.specs.Opening.{opening}
 use Rattle.bias.specs.Opening.{part_inside, bias_inside, bias_opening, both_opening}
-use Rattle.lastscan.specs.LastScan.{nothing_kept}
 use Rattle.lookup.specs.Lookup.{refused_with}
 use Rattle.product.specs.Product.{product_size}
 use Rattle.window.specs.Ages.{window_after}
@@ -92,7 +91,7 @@ unfolding reading
 reading_rows = record { eight_of_all = (refl, refl); nine_before_ten = (refl, refl); ten_alone = (refl, refl) }
 
 lookup_rows : LookupRows
-unfolding fresh_of nothing_kept
+unfolding fresh_of
 lookup_rows = record {
   eleven_below = (refl, λ wanted. refl);
   eleven_above = (refl, λ wanted. refl);

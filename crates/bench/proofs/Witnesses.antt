@@ -5,12 +5,13 @@ use native.Mathlib.Nat.{le_refl}
 use native.Mathlib.Omega.{arith}
 use mathlib.Core.Path.{◌≡◌, refl, sym, ap, ap₂, subst, ◌∙◌}
 use mathlib.Core.List.{List, [], ◌∷◌}
-use mathlib.Core.Bool.{true, false, cond}
+use mathlib.Core.Bool.{true, cond}
 use lib.ListN.{length, get_or, replicate, length-replicate}
 use lib.Dec.{eqb, lit<, lit≤}
 use lib.Signed.{◌<ℤ◌}
 use lib.IntN.{ℤ, pos, ◌*ℤ◌}
 use borrow.Author.Tests.{le-leb}
+use Rattle.std.specs.Prelude.{true, None, Some, Err}
 use Rattle.integers.specs.Fractions.{whole, Equal}
 use Rattle.integers.specs.Rounding.{floor, r}
 use Rattle.lists.specs.All.{All}
@@ -34,13 +35,14 @@ use Rattle.acceptance.specs.Bracketed.{SampleBracketed}
 use Rattle.thermometer.specs.Equations.{measured_ratio, Bracketed}
 use Rattle.acceptance.specs.Kept.{kept_scan}
 use Rattle.acceptance.specs.declared.Scan.{Scan}
-use Rattle.scene.specs.declared.Channel.{Channel}
+use Rattle.scene.specs.declared.Flag.TheVariants.{WarmMissing}
+use Rattle.scene.specs.Channel.{Channel, channel_with}
 use Rattle.window.specs.Ages.{no_scan, window_of, shifted, window_after}
 use Rattle.window.specs.Sums.{weight_sum, value_sum, thermometer_weights, thermometer_sum, means_from, means_of}
 use Rattle.window.specs.declared.Means.{Means}
 use Rattle.window.specs.Means.{D, flag_of, channel_state_of}
 use Rattle.scene.specs.Temperature.{temperature, biased}
-use Rattle.scene.specs.Scene.{kelvin, no_constants, bits, scene_of, unbiased}
+use Rattle.scene.specs.Scene.{kelvin, bits, scene_of, unbiased}
 use Rattle.scene.specs.declared.Scene.TheVariants.{Kelvin, Flagged, Outside}
 use Rattle.scene.proofs.Delivered.{within_guard}
 use Rattle.product.specs.Scenes.{Deliver, scene_in}
@@ -133,7 +135,7 @@ replies_rejected : (short : List ℕ) (fourth : ℕ) (buffer : List ℕ) → (le
 unfolding replies
 replies_rejected short fourth buffer wrong room gives =
     let feed : Feed = record { scan = rejected_scan fourth; buffer = buffer } in
-    replies_refused bench_calibrator (record { scan = short; buffer = [] }) (feed ∷ []) 4 _ (verdict_length_wrong _ _ short 0 wrong)
+    replies_refused bench_calibrator (record { scan = short; buffer = [] }) (feed ∷ []) 4 _ (verdict_length_wrong _ short 0 wrong)
     (ap (λ (reply : Reply). reply ∷ []) (first_reply gives buffer room scene_delivered_lem))
 
 module _ (buffer other : List ℕ) (room : product_size ≤ length buffer) (other-room : product_size ≤ length other) where
@@ -193,21 +195,21 @@ module _ (buffer : List ℕ) (room : product_size ≤ length buffer) where
   after = (step_by passes bench_calibrator bench).calibrator
 
   no_bytes : verdict_in bench_calibrator no_bytes_lem ≡ fails 4
-  no_bytes = verdict_length_wrong _ _ [] (length buffer) (λ long. omega arith)
+  no_bytes = verdict_length_wrong _ [] (length buffer) (λ long. omega arith)
 
   no_tag : verdict_in bench_calibrator no_tag_lem ≡ fails 5
   unfolding zeros layout_is_right field_is_right
-  no_tag = verdict_field_wrong _ _ zeros (length buffer) refl refl
+  no_tag = verdict_field_wrong _ zeros (length buffer) refl refl
 
   no_room : verdict_in bench_calibrator no_room_lem ≡ fails 7
   unfolding fresh_of window_of
-  no_room = verdict_buffer_short false 0 (bench_scan 15000) 0 (bench_gives 15000).long (bench_gives 15000).right refl (omega arith)
+  no_room = verdict_buffer_short None (bench_scan 15000) 0 (bench_gives 15000).long (bench_gives 15000).right refl (omega arith)
 
   once_more : verdict_in after bench ≡ fails 6
   unfolding step_by window_after
   once_more =
       let number = scan_number (bench_scan 15000) in
-      verdict_number_not_above true number (bench_scan 15000) (length buffer) (bench_gives 15000).long (bench_gives 15000).right (le-leb number number (le_refl number))
+      verdict_number_not_above (Some number) (bench_scan 15000) (length buffer) (bench_gives 15000).long (bench_gives 15000).right (le-leb number number (le_refl number))
 
   bench_twice : replies bench_calibrator (bench ∷ bench ∷ []) ≡ delivered 2112 ∷ refused 6 ∷ []
   unfolding replies
@@ -227,7 +229,7 @@ module _ (buffer : List ℕ) (room : product_size ≤ length buffer) where
 
 -- what is delivered is T, within the guard
 bench_in_units : InUnitsBy unbiased bench_channel
-bench_in_units = record { within = λ flag count passed. within_guard passed.guard_low_lem passed.guard_high_lem }
+bench_in_units = record { within = λ k is count passed. within_guard passed.guard_low_lem passed.guard_high_lem }
 
 outside_scene : scene_in unbiased bench_channel 9999 ≡ Outside
 unfolding scene_in scene_of r floor
@@ -240,14 +242,14 @@ one_unit_higher = refl
 
 -- too few warm counts
 abbrev flagged_channel : Channel
-flagged_channel = record { flag = 2; constants = no_constants }
+flagged_channel = Err WarmMissing
 
 flagged_samples : accepted_samples bench_settings flagged_scan ≡ samples_with no_counts
 unfolding bench_table flagged_scan tabulate accepted_counts four_counts within_limits accepted_sides without_overlap good differs count chosen_to
 flagged_samples = samples_are flagged_scan no_counts refl refl
 
 flagged_gives : Gives flagged_scan flagged_channel 15000
-unfolding bench_table flagged_scan shelf_bytes layout_is_right field_is_right kept_scan tabulate window_of window_after shifted no_scan cells channel_state_of flag_of means_from weight_sum value_sum thermometer_weights thermometer_sum sum
+unfolding bench_table flagged_scan shelf_bytes layout_is_right field_is_right kept_scan tabulate window_of window_after shifted no_scan cells channel_state_of channel_with flag_of means_from weight_sum value_sum thermometer_weights thermometer_sum sum
 flagged_gives = record {
   long = refl;
   right = refl;
@@ -324,15 +326,15 @@ module _ (earth : ℕ) (buffer : List ℕ) (room : product_size ≤ length buffe
   unfolding rolled_by zeros layout_is_right field_is_right
   rolled_before =
       let six : Feed = record { scan = numbered_scan 6 earth; buffer = buffer } in
-      let refused-first = verdict_field_wrong false 0 zeros (length buffer) refl refl in
-      let accepted-then = verdict_passes false 0 (numbered_scan 6 earth) (length buffer) (numbered_long 6 earth) (numbered_right 6 earth) refl room in
+      let refused-first = verdict_field_wrong None zeros (length buffer) refl refl in
+      let accepted-then = verdict_passes None (numbered_scan 6 earth) (length buffer) (numbered_long 6 earth) (numbered_right 6 earth) refl room in
       ap (λ (v : Verdict). rolled_by (joined_by v [] (record { scan = zeros; buffer = buffer })) (six ∷ [])) refused-first ∙ ap (λ (v : Verdict). joined_by v [] six) accepted-then
 
   pub fed_passes : verdict_at (rolled_by [] (feeds_before earth buffer)) (record { scan = bench_scan earth; buffer = buffer }) ≡ passes
   unfolding numbered_scan bench_scan
   fed_passes =
       ap (λ (roll : Roll). verdict_at roll (record { scan = bench_scan earth; buffer = buffer })) rolled_before
-      ∙ verdict_passes true 6 (bench_scan earth) (length buffer) (bench_gives earth).long (bench_gives earth).right refl room
+      ∙ verdict_passes (Some 6) (bench_scan earth) (length buffer) (bench_gives earth).long (bench_gives earth).right refl room
 
   abbrev pub fed : (c : ℕ) → c < channels → FedChannel
   fed c below = record {

@@ -1,6 +1,6 @@
 -- Document 01, "Bench scan", and requests W1 and W4: the bench table and the bench scan as bytes, the rows H1 to H12, which speak of T, before scan
 -- bias, and rows of scan bias and of the interpolation.
-use Rattle.std.specs.Prelude.{ℕ, ◌-◌, ◌<◌, ◌≡◌, List, [], ◌∷◌, ◌++◌, true, false, ℤ, pos, neg_ℤ, replicate, get_or}
+use Rattle.std.specs.Prelude.{ℕ, ◌-◌, ◌<◌, ◌≡◌, List, [], ◌∷◌, ◌++◌, true, false, ℤ, pos, neg_ℤ, replicate, get_or, Ok}
 use Rattle.integers.specs.Rounding.{r}
 use Rattle.integers.specs.Fractions.{◌/ᶠ◌}
 use Rattle.lists.specs.Build.{tabulate, cells}
@@ -14,7 +14,7 @@ use Rattle.table.specs.Opening.{ages}
 use Rattle.bias.specs.Bias.{zero_bias}
 use Rattle.samples.specs.Good.{Sample, good, at_least}
 use Rattle.acceptance.specs.Counts.{Sides, within_limits, good_counts, accepted_sides, scan_value}
-use Rattle.scene.specs.declared.Channel.{Channel}
+use Rattle.scene.specs.Channel.{Channel}
 use Rattle.record.specs.Record.{record_layout, shelves_size}
 use Rattle.scene.specs.Temperature.{outside, biased}
 use Rattle.fields.specs.Numbers.{u16_bytes, u32_bytes}
@@ -110,10 +110,7 @@ bench_settings = settings_of ages bench_table
 
 -- each of its channels once it is fed the bench scan: flag 0; Tc, Tw - Tc with Tw = 1,118,822, TNL, D, 12 × Wc × Ww and Ac × Ww
 abbrev pub bench_channel : Channel
-bench_channel = record {
-  flag = 0;
-  constants = record { tc = pos 11166; rise = pos 1107656; tnl = pos 400; d = pos 120000; slope = pos 12; base = pos 120000 };
-}
+bench_channel = Ok (record { tc = pos 11166; rise = pos 1107656; tnl = pos 400; d = pos 120000; slope = pos 12; base = pos 120000 })
 
 -- ---- the rows
 

@@ -1,9 +1,10 @@
 -- Document 01, "Operations", and requests W1 and W5: in each operation the tests run in the order named, and the first that applies decides. Each
 -- row says which of the tests apply, each by itself, and which number comes back; most meet several refusals at once.
-use Rattle.std.specs.Prelude.{ℕ, ◌+◌, ◌*◌, ◌<◌, ◌≤◌, ◌≡◌, List, [], ◌∷◌, ◌++◌, Bool, not, ◌&&◌, cond, eqb, leb, ltb, length, replicate}
+use Rattle.std.specs.Prelude.{ℕ, ◌+◌, ◌*◌, ◌<◌, ◌≤◌, ◌≡◌, List, [], ◌∷◌, ◌++◌, Bool, not, ◌&&◌, cond, eqb, leb, ltb, length, replicate, is_some}
 use Rattle.lists.specs.Build.{put}
 use Rattle.lists.specs.Tests.{Verdict, fails, Test, ◌when◌}
-use Rattle.fields.specs.Fields.{Field, field_at, field_bytes, layout_size, layout_is_right, value_start}
+use Rattle.fields.specs.declared.Field.{Field}
+use Rattle.fields.specs.Fields.{field_at, field_bytes, layout_size, layout_is_right, value_start}
 use Rattle.thermometer.specs.Reading.{not_read, resistance_inside, coefficients_inside, reading, from_to}
 use Rattle.table.specs.Settings.{table_layout, settings_of}
 use Rattle.table.specs.Ranges.{values_inside}
@@ -13,7 +14,7 @@ use Rattle.bias.specs.Opening.{bias_inside, bias_opening, both_opening}
 use Rattle.lookup.specs.Lookup.{refused_with}
 use Rattle.calibrator.specs.Refusals.{wrong_length, wrong_field, not_above, too_short, refused}
 use Rattle.calibrator.specs.Feeding.{Feed, outcome_after}
-use Rattle.promise.specs.Roll.{Roll, begun, last_number, verdict_at}
+use Rattle.promise.specs.Roll.{Roll, last_number, verdict_at}
 use Rattle.promise.specs.Restart.{rolled_by}
 use Rattle.promise.specs.CountBehind.{answer_of}
 use Rattle.bench.specs.Bench.{bench_table, bench_scan, bench_calibrator}
@@ -32,7 +33,7 @@ FirstDecides tests verdict first more = (that_apply tests ≡ first ∷ more) ×
 
 abbrev pub feed_tests : Roll → Feed → List Test
 feed_tests roll feed =
-    (4 when wrong_length feed.scan) ∷ (5 when wrong_field feed.scan) ∷ (6 when not_above (begun roll) (last_number roll) feed.scan) ∷ (7 when too_short (length feed.buffer)) ∷ []
+    (4 when wrong_length feed.scan) ∷ (5 when wrong_field feed.scan) ∷ (6 when not_above (last_number roll) feed.scan) ∷ (7 when too_short (length feed.buffer)) ∷ []
 
 -- after the bench scan was accepted with this buffer, a feed with this record and this short buffer: by the roll, and by what the calibrator
 -- answers
@@ -104,7 +105,7 @@ pub record ReadingRows : Type 0 where
 -- ---- the count behind a temperature, where no scan has been accepted
 
 abbrev pub lookup_tests : ℕ → List Test
-lookup_tests channel = (11 when not (from_to 1 22 channel)) ∷ (12 when not bench_calibrator.last.any) ∷ []
+lookup_tests channel = (11 when not (from_to 1 22 channel)) ∷ (12 when not (is_some bench_calibrator.last)) ∷ []
 
 abbrev pub LookupRefused : (channel : ℕ) (first : ℕ) (more : List ℕ) → Type 0
 LookupRefused channel first more = (that_apply (lookup_tests channel) ≡ first ∷ more) × ((wanted : ℕ) → answer_of bench_calibrator channel wanted ≡ refused_with first)

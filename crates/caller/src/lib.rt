@@ -75,7 +75,7 @@ pub fn fresh_state(table: &[u8], bias: &[u8], state: &mut [u8]) -> u8
 }
 
 pub fn product_of_one_scan(state: &mut [u8], scan: &[u8], buffer: &mut [u8]) -> u8
-    ensures { (result ≡ (fed_state state.old (record { scan = scan.entry.now; buffer = buffer.old })).answer) × (state.new ≡ (fed_state state.old (record { scan = scan.entry.now; buffer = buffer.old })).state) × (buffer.new ≡ (fed_state state.old (record { scan = scan.entry.now; buffer = buffer.old })).buffer) }
+    ensures { (result ≡ (fed_state state.old (record { scan = scan.now; buffer = buffer.old })).answer) × (state.new ≡ (fed_state state.old (record { scan = scan.now; buffer = buffer.old })).state) × (buffer.new ≡ (fed_state state.old (record { scan = scan.now; buffer = buffer.old })).buffer) }
 {
     station::sounder_feed(state, scan, buffer)
 }

@@ -1,9 +1,9 @@
 -- Channels that are all alike, for timing the writer of a product.
-use Rattle.std.specs.Prelude.{List, replicate}
+use Rattle.std.specs.Prelude.{List, replicate, Ok}
 use Rattle.instrument.specs.Instrument.{channels}
 use Rattle.scene.specs.declared.Constants.{Constants}
-use Rattle.scene.specs.declared.Channel.{Channel}
+use Rattle.scene.specs.Channel.{Channel}
 
--- channels with flag 0 and these constants
+-- channels without a flag and with these constants
 unfoldable pub alike_channels : Constants → List Channel
-alike_channels constants = replicate channels (record { flag = 0; constants = constants })
+alike_channels constants = replicate channels (Ok constants)

@@ -5,7 +5,7 @@
 ghost use Rattle.std.specs.Prelude.{◌≡◌, ◌++◌, ℕ, ◌+◌, ◌*◌, ◌<◌, ◌≤◌, pos, length, drop, ◌<ℤ◌};
 ghost use Rattle.integers.specs.Rounding.{floor, r};
 ghost use Rattle.fields.specs.Numbers.{u16_at, u32_at, i16_at, i32_at};
-ghost use Rattle.fields.specs.Fields.{head_size, field_value, layout_of, layout_size, layout_is_right};
+ghost use Rattle.fields.specs.Fields.{head_size, field_value, layout_size, layout_is_right};
 ghost use Rattle.instrument.specs.Instrument.{channels, thermometers};
 ghost use Rattle.table.specs.Settings.{settings_of};
 ghost use Rattle.table.specs.Opening.{ages, table_size};
@@ -15,11 +15,15 @@ ghost use Rattle.acceptance.specs.Kept.{kept_scan};
 ghost use Rattle.scene.specs.Ranges.{ConstantsRange};
 ghost use Rattle.product.specs.Steps.{by_pairs, pairs_size, pairs_part, PairsRange};
 ghost use Rattle.product.specs.Product.{product_size, product_of, delivered_count};
+ghost use Rattle.comparison.specs.Layouts.{layout_of};
 ghost use Rattle.comparison.specs.KeptValues.{kept_at};
 ghost use Rattle.comparison.specs.AlikeChannels.{alike_channels};
 
+use fields::{Field, HEAD};
 use instrument::CHANNELS;
+use record::Record;
 use scene::{Channel, Constants};
+use table::TableBytes;
 
 // How many values a scan keeps of both sides.
 const SIDES: usize = 2 * CHANNELS;
@@ -71,14 +75,22 @@ pub fn compared_field(bytes: &[u8], at: usize, tag: u8, size: u16) -> usize
     requires { at + head_size + size ≤ length bytes.now }
     ensures { result ≡ length (field_value bytes.now at (record { tag = tag; size = size })) }
 {
-    fields::field(bytes, at, tag, size).len()
+    fields::value_at(bytes, at, Field { tag, size }).len()
 }
 
+// Field by field: the C interface has the tags and the sizes as two rows, and a list of any length is built nowhere.
 pub fn compared_layout(bytes: &[u8], tags: &[u8], sizes: &[u16]) -> bool
     requires { (length tags.now ≡ length sizes.now) × (layout_size (layout_of tags.now sizes.now) ≤ length bytes.now) }
     ensures { result ≡ layout_is_right bytes.now 0 (layout_of tags.now sizes.now) }
 {
-    fields::layout_is_right(bytes, tags, sizes)
+    let mut at = 0;
+    for (&tag, &size) in tags.iter().zip(sizes) {
+        if !fields::layout_is_right(&bytes[at..], &[Field { tag, size }]) {
+            return false;
+        }
+        at += HEAD + usize::from(size);
+    }
+    true
 }
 
 // Value k of what a scan keeps: the warm sides, the cold, the thermometers.
@@ -86,27 +98,24 @@ pub fn compared_kept(table: &[u8], scan: &[u8], k: usize) -> u32
     requires { (length table.now ≡ table_size) × RightRecord scan.now × (k < 2 * channels + thermometers) }
     ensures { result ≡ kept_at (kept_scan (accepted_samples (settings_of ages table.now) scan.now)) k }
 {
-    let kept = acceptance::accepted_scan(table, scan);
-    let warm = kept.warm;
-    let cold = kept.cold;
-    let kelvin = kept.kelvin;
+    let table = <&TableBytes>::try_from(table).unwrap();
+    let kept = acceptance::accepted_scan(table, Record::read(scan).unwrap());
     if k < CHANNELS {
-        return warm[k];
+        return kept.warm[k];
     }
     if k < SIDES {
-        return cold[k - CHANNELS];
+        return kept.cold[k - CHANNELS];
     }
-    kelvin[k - SIDES]
+    kept.kelvin[k - SIDES]
 }
 
 fn alike_channels(constants: Constants) -> [Channel; CHANNELS]
     ensures { result ≡ alike_channels constants }
 {
-    let channel = Channel { flag: 0, constants };
-    [channel; CHANNELS]
+    [Ok(constants); CHANNELS]
 }
 
-// A whole product, of channels with flag 0 that all have these constants, under a scan bias: the writer alone, to be timed. `pairs` has
+// A whole product, of channels without a flag that all have these constants, under a scan bias: the writer alone, to be timed. `pairs` has
 // two numbers for every position, channel by channel: 65,536 + e and 65,536 (c0 + 32,768) + 32,767.
 pub fn compared_product(
     buffer: &mut [u8],

@@ -6,7 +6,7 @@
 ghost use Rattle.std.specs.Prelude.{◌≡◌, ◌++◌, ℕ, ◌+◌, ◌*◌, ◌<◌, ◌≤◌, pos, length, drop, ◌<ℤ◌};
 ghost use Rattle.integers.specs.Rounding.{floor, r};
 ghost use Rattle.fields.specs.Numbers.{u16_at, u32_at, i16_at, i32_at};
-ghost use Rattle.fields.specs.Fields.{head_size, field_value, layout_of, layout_size, layout_is_right};
+ghost use Rattle.fields.specs.Fields.{head_size, field_value, layout_size, layout_is_right};
 ghost use Rattle.instrument.specs.Instrument.{channels, thermometers};
 ghost use Rattle.table.specs.Settings.{settings_of};
 ghost use Rattle.table.specs.Opening.{ages, table_size};
@@ -16,6 +16,7 @@ ghost use Rattle.acceptance.specs.Kept.{kept_scan};
 ghost use Rattle.scene.specs.Ranges.{ConstantsRange};
 ghost use Rattle.product.specs.Steps.{by_pairs, pairs_size, pairs_part, PairsRange};
 ghost use Rattle.product.specs.Product.{product_size, product_of, delivered_count};
+ghost use Rattle.comparison.specs.Layouts.{layout_of};
 ghost use Rattle.comparison.specs.KeptValues.{kept_at};
 ghost use Rattle.comparison.specs.AlikeChannels.{alike_channels};
 
@@ -93,7 +94,7 @@ pub extern "C" fn compared_kept(table: &[u8], scan: &[u8], k: usize) -> u32
     comparison::compared_kept(table, scan, k)
 }
 
-// A whole product, of channels with flag 0 that all have these constants, under a scan bias: the writer alone, to be timed. `pairs` has
+// A whole product, of channels without a flag that all have these constants, under a scan bias: the writer alone, to be timed. `pairs` has
 // two numbers for every position, channel by channel: 65,536 + e and 65,536 (c0 + 32,768) + 32,767.
 #[unsafe(no_mangle)]
 pub extern "C" fn compared_product(

@@ -17,7 +17,6 @@ use Rattle.bias.specs.Opening.{AcceptedBias}
 use Rattle.bias.proofs.OpeningLaws.{both_pass}
 use Rattle.record.specs.Record.{scan_number}
 use Rattle.window.specs.Ages.{window_after}
-use Rattle.lastscan.specs.LastScan.{nothing_kept}
 use Rattle.lookup.specs.Lookup.{count_behind}
 use Rattle.calibrator.specs.declared.Calibrator.{Calibrator}
 use Rattle.calibrator.specs.Feeding.{Feed, settings, verdict_in, fresh_of, step_by, step, calibrator_after, Sound, OfBytes, AllOfBytes}
@@ -35,7 +34,7 @@ use Rattle.state.proofs.ReadBack.{Savable, length_state, is_state_lem, read_back
 -- ---- every calibrator of a run can be written
 
 pub fresh_is_savable : (table : Table) → AcceptedTable table.bytes → (bias : Bias) → AcceptedBias bias.bytes → Savable (fresh_of table bias)
-unfolding fresh_of nothing_kept
+unfolding fresh_of
 fresh_is_savable table accepted bias file = record {
   sound = fresh_is_sound accepted file;
   shaped = empty_is_shaped;
@@ -50,7 +49,7 @@ module _ {c : Calibrator} (savable : Savable c) (feed : Feed) (bytes : OfBytes f
   savable_by passes is =
       let number = scan_number feed.scan in
       let shape = kept_shape (settings c) feed.scan in
-      let facts = passes_facts c.window.any c.window.last feed.scan (length feed.buffer) is in
+      let facts = passes_facts c.window.last feed.scan (length feed.buffer) is in
       record {
         sound = subst (λ (v : Verdict). Sound (step_by v c feed).calibrator) is (sound_after_step savable.sound feed bytes);
         shaped = next_is_shaped number savable.shaped shape;

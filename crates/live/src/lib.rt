@@ -4,109 +4,126 @@
 
 ghost use Rattle.std.specs.Prelude.{◌≡◌, ◌≤◌, length};
 ghost use Rattle.lists.specs.Tests.{number_of};
-ghost use Rattle.table.specs.Opening.{AcceptedTable};
-ghost use Rattle.bias.specs.Opening.{AcceptedBias};
-ghost use Rattle.window.specs.Ranges.{WindowRange};
-ghost use Rattle.lastscan.specs.Ranges.{LastRange};
 ghost use Rattle.calibrator.specs.Feeding.{step};
-ghost use Rattle.calibrator.specs.Steps.{calibrator_with};
+ghost use Rattle.calibrator.specs.Steps.{calibrator_of};
 ghost use Rattle.state.specs.State.{state_size};
-ghost use Rattle.live.specs.Calls.{fresh_verdict, fresh_by, left_by, fed_state, CallLeaves, found_in, found_number, count_or};
+ghost use Rattle.live.specs.Calls.{fresh_verdict, fresh_by, left_by, fed_state, CallLeaves, found_in};
+ghost use Rattle.live.specs.Answers.{answer_number, refusal_number, found_of};
 
-use lastscan::LastScan;
-use lookup::Behind;
-use state::STATE_SIZE;
-use window::Window;
+use bias::{PAIR_NUMBERS, Pairs};
+use state::{Parts, STATE_SIZE};
 
-// The answer where the bytes are no state, or no state has room.
-const NO_STATE: u8 = 254;
+// Why a call is refused: the bytes are no state, or none has room; or as an opening, a feed or a look-up is refused.
+#[derive(Clone, Copy, Debug, PartialEq, Eq)]
+pub enum Refusal {
+    NoState,
+    File(table::Refusal),
+    Feed(calibrator::Refusal),
+    Lookup(lookup::Refusal),
+}
 
-// The answer where no count fits.
-const NO_COUNT: u8 = 253;
+impl From<table::Refusal> for Refusal {
+    ghost use Rattle.live.specs.declared.Refusal.TheVariants.{File};
 
-// A fresh state under this table and this bias file: 0, the number of the table's refusal, then of the bias file's, or 254 where the state is
-// too short.
-pub fn fresh(table: &[u8], bias: &[u8], state: &mut [u8]) -> u8
-    ensures { (result ≡ number_of (fresh_verdict table.now bias.now state.old)) × (state.new ≡ fresh_by (fresh_verdict table.now bias.now state.old) table.now bias.now state.old) }
+    ghost from_gives = { λ refusal r. r ≡ File refusal };
+
+    fn from(refusal: table::Refusal) -> Refusal {
+        Refusal::File(refusal)
+    }
+}
+
+impl From<calibrator::Refusal> for Refusal {
+    ghost use Rattle.live.specs.declared.Refusal.TheVariants.{Feed};
+
+    ghost from_gives = { λ refusal r. r ≡ Feed refusal };
+
+    fn from(refusal: calibrator::Refusal) -> Refusal {
+        Refusal::Feed(refusal)
+    }
+}
+
+impl From<lookup::Refusal> for Refusal {
+    ghost use Rattle.live.specs.declared.Refusal.TheVariants.{Lookup};
+
+    ghost from_gives = { λ refusal r. r ≡ Lookup refusal };
+
+    fn from(refusal: lookup::Refusal) -> Refusal {
+        Refusal::Lookup(refusal)
+    }
+}
+
+impl Refusal {
+    // The number of a refusal.
+    pub fn number(self) -> u8
+        ensures { result ≡ refusal_number self }
+    {
+        match self {
+            Refusal::NoState => 254,
+            Refusal::File(refusal) => refusal as u8,
+            Refusal::Feed(refusal) => refusal as u8,
+            Refusal::Lookup(refusal) => refusal as u8,
+        }
+    }
+}
+
+// A fresh state under this table and this bias file. The table's refusal comes first, then the bias file's, then that the state is too short.
+pub fn fresh(table: &[u8], bias: &[u8], state: &mut [u8]) -> Result<(), Refusal>
+    ensures answer { answer_number result ≡ number_of (fresh_verdict table.now bias.now state.old) }
+    ensures state { state.new ≡ fresh_by (fresh_verdict table.now bias.now state.old) table.now bias.now state.old }
 {
-    let answer = table::open(table).answer;
-    let number = table::refusal_number(answer);
-    if number != 0 {
-        return number;
-    }
-    let second = bias::open(bias).answer;
-    let after = table::refusal_number(second);
-    if after != 0 {
-        return after;
-    }
+    let parts = Parts {
+        table: table::open(table)?,
+        bias: bias::open(bias)?,
+        window: window::empty(),
+        last: None,
+    };
     if state.len() < STATE_SIZE {
-        return NO_STATE;
+        return Err(Refusal::NoState);
     }
-    state::save(
-        state,
-        table,
-        bias,
-        window::empty(),
-        lastscan::nothing_kept(),
-    );
-    0
+    state::save(state, &parts);
+    Ok(())
 }
 
 // Feeds a scan to the calibrator whose parts were read from the state, and saves what an accepted scan makes of it.
 fn feed_read(
-    table: &[u8],
-    bias: &[u8],
-    window: Window,
-    last: LastScan,
+    parts: &mut Parts,
     state: &mut [u8],
     scan: &[u8],
     buffer: &mut [u8],
-) -> u8
-    requires { AcceptedTable table.now × AcceptedBias bias.now × WindowRange window × LastRange last × (state_size ≤ length state.old) }
-    ensures { CallLeaves (left_by state.old (step (calibrator_with table.now bias.now window last) (record { scan = scan.entry.now; buffer = buffer.old }))) result state.new buffer.new }
+) -> Result<(), Refusal>
+    requires { state_size ≤ length state.old }
+    ensures { CallLeaves (left_by state.old (step (calibrator_of parts.old.table parts.old.bias parts.old.window parts.old.last) (record { scan = scan.now; buffer = buffer.old }))) (answer_number result) state.new buffer.new }
 {
-    let pairs = bias::pairs_of(bias);
-    let fed = calibrator::feed_with(table, bias, &pairs, window, last, scan, buffer);
-    let answer = fed.answer;
-    let number = calibrator::answer_number(answer);
-    if number != 0 {
-        return number;
-    }
-    state::save(state, table, bias, fed.window, fed.last);
-    0
+    let mut numbers = [0; PAIR_NUMBERS];
+    bias::put_pairs(&mut numbers, parts.bias.bytes());
+    let pairs = Pairs {
+        bias: &parts.bias,
+        numbers: &numbers,
+    };
+    let fed = calibrator::feed_with(&parts.table, &pairs, parts.window, parts.last, scan, buffer);
+    fed.answer?;
+    parts.window = fed.window;
+    parts.last = fed.last;
+    state::save(state, parts);
+    Ok(())
 }
 
-// Feeds a scan to the calibrator of a state: 254 where the bytes are no state, 4 to 7, or 0.
-pub fn feed(state: &mut [u8], scan: &[u8], buffer: &mut [u8]) -> u8
-    ensures { CallLeaves (fed_state state.old (record { scan = scan.entry.now; buffer = buffer.old })) result state.new buffer.new }
+// Feeds a scan to the calibrator of a state.
+pub fn feed(state: &mut [u8], scan: &[u8], buffer: &mut [u8]) -> Result<(), Refusal>
+    ensures { CallLeaves (fed_state state.old (record { scan = scan.now; buffer = buffer.old })) (answer_number result) state.new buffer.new }
 {
-    if !state::is_state(state) {
-        return NO_STATE;
+    match &mut state::read(state) {
+        Some(parts) => feed_read(parts, state, scan, buffer),
+        None => Err(Refusal::NoState),
     }
-    let table = state::table_in(state);
-    let bias = state::bias_in(state);
-    let window = state::window_in(state);
-    let last = state::last_in(state);
-    feed_read(&table, &bias, window, last, state, scan, buffer)
 }
 
-// The count behind a temperature, by the calibrator of a state: 254 where the bytes are no state, 11, 12, 253 where no count fits, or 0 and
-// the count.
-pub fn count_behind(state: &[u8], channel: u32, wanted: u32, count: &mut u16) -> u8
-    ensures { (result ≡ found_number (found_in state.now channel wanted)) × (count.new ≡ count_or (found_in state.now channel wanted) count.old) }
+// The count behind a temperature, by the calibrator of a state; none where no count fits.
+pub fn count_behind(state: &[u8], channel: u32, wanted: u32) -> Result<Option<u16>, Refusal>
+    ensures { found_of result ≡ found_in state.now channel wanted }
 {
     if !state::is_state(state) {
-        return NO_STATE;
+        return Err(Refusal::NoState);
     }
-    let last = state::last_in(state);
-    let answer = lookup::count_behind(last, channel, wanted);
-    match answer {
-        Behind::Count(n) => {
-            *count = n;
-            0
-        }
-        Behind::NoCount => NO_COUNT,
-        Behind::ChannelOutside => 11,
-        Behind::NotCalibrated => 12,
-    }
+    Ok(lookup::count_behind(state::last_in(state), channel, wanted)?)
 }

@@ -7,12 +7,12 @@ use mathlib.Core.Logic.{◌⊎◌, inl, inr, ⊎_elim}
 use mathlib.Core.List.{List, [], ◌∷◌, ◌++◌}
 use lib.ListN.{length, take, length-append, length-take}
 use Rattle.lists.specs.All.{All}
-use Rattle.lists.specs.Tests.{Verdict, passes, fails}
+use Rattle.lists.specs.Tests.{passes, fails}
 use Rattle.lists.proofs.All.{all_none, all_one, all_appended, all_weaker}
 use Rattle.table.specs.declared.Table.{Table}
-use Rattle.table.specs.declared.Opening.{Opening}
-use Rattle.table.specs.declared.Opening.TheVariants.{Accepted, LengthWrong, FieldWrong, ValueOutside}
-use Rattle.table.specs.Opening.{opening, verdict_of}
+use Rattle.table.specs.declared.Refusal.{Refusal}
+use Rattle.table.specs.declared.Refusal.TheVariants.{LengthWrong, FieldWrong, ValueOutside}
+use Rattle.table.specs.Opening.{opening, refusal_number}
 use Rattle.bias.specs.Opening.{bias_opening}
 use Rattle.calibrator.specs.declared.Calibrator.{Calibrator}
 use Rattle.calibrator.specs.Refusals.{Reply, delivered, refused}
@@ -20,16 +20,16 @@ use Rattle.calibrator.specs.Feeding.{Feed, fresh_of, calibrator_after, Sound}
 use Rattle.lines.specs.declared.Stop.{Stop}
 use Rattle.lines.specs.declared.Stop.TheVariants.{InputUnread, OutputUnwritten}
 use Rattle.lines.specs.Lines.{refused_line, scan_line, number_in, flags_in, reply_line, opening_line, stop_line}
-use Rattle.lines.specs.Steps.{empty_product, record_fed, listed_line, output_size, error_line, calibrated_line}
+use Rattle.lines.specs.Steps.{empty_product, record_fed, listed_line}
 use Rattle.programs.specs.declared.Program.{Program}
 use Rattle.programs.specs.declared.Program.TheVariants.{Listing, Calibrate}
+use Rattle.programs.specs.declared.Stream.TheVariants.{Output, Errors}
 use Rattle.programs.specs.declared.Next.{Next}
 use Rattle.programs.specs.declared.Next.TheVariants.{More, Ended, Stopped}
 use Rattle.programs.specs.declared.Turned.{Turned}
-use Rattle.programs.specs.Streams.{standard_output, standard_error}
-use Rattle.programs.specs.Steps.{line_of, written_product, turned_of, Together, of_record, of_refusal, Due, line_due, product_due, stop_due}
+use Rattle.programs.specs.Steps.{line_of, written_of, written_product, turned_of, Together, of_record, of_refusal, Due, line_due, product_due, stop_due}
 use Rattle.programs.specs.Runs.{ReadTo, WholeFeed, Ran, Unfed, UnderBias, UnderTable}
-use Rattle.programs.proofs.StepLaws.{written_size}
+use Rattle.programs.proofs.StepLaws.{one_is_written}
 use Rattle.programs.proofs.RunLaws.{after_appended}
 
 -- ---- no line is empty
@@ -47,60 +47,55 @@ unfolding reply_line
 reply_line_has_bytes (delivered n) product = scan_line_has_bytes (number_in product) n (flags_in product)
 reply_line_has_bytes (refused n) product = refused_line_has_bytes n
 
-opening_line_has_bytes : (verdict : Verdict) {number : ℕ} → verdict ≡ fails number → 0 < length (opening_line verdict)
+opening_line_has_bytes : (number : ℕ) → 0 < length (opening_line (fails number))
 unfolding opening_line
-opening_line_has_bytes verdict {number} refuses = rw refuses (refused_line_has_bytes number)
+opening_line_has_bytes number = refused_line_has_bytes number
 
 -- ---- what is written of a record or of a refused file
 
-refusal_numbers : (answer : Opening) {number : ℕ} → verdict_of answer ≡ fails number → (1 ≤ number) × (number ≤ 3)
-refusal_numbers Accepted refuses = absurd (let z : ◌≡◌ {A = ℕ} 0 1 = cc in omega arith)
-refusal_numbers LengthWrong {number} refuses = let is : 1 ≡ number = cc in (omega arith, omega arith)
-refusal_numbers FieldWrong {number} refuses = let is : 2 ≡ number = cc in (omega arith, omega arith)
-refusal_numbers ValueOutside {number} refuses = let is : 3 ≡ number = cc in (omega arith, omega arith)
+refusal_numbers : (refusal : Refusal) → (1 ≤ refusal_number refusal) × (refusal_number refusal ≤ 3)
+refusal_numbers LengthWrong = (omega arith, omega arith)
+refusal_numbers FieldWrong = (omega arith, omega arith)
+refusal_numbers ValueOutside = (omega arith, omega arith)
 
 pub together_says : {program : Program} {line product : List ℕ} → Together program line product
     → ((c : Calibrator) × (scan : List ℕ) × Sound c × (0 < length scan) × (line ≡ line_of program c scan) × (product ≡ written_product program c scan))
     ⊎ ((number : ℕ) × (1 ≤ number) × (number ≤ 3) × (line ≡ refused_line number) × (product ≡ []))
 unfolding opening_line
 together_says (of_record c scan sound some line-is product_is) = inl (c, scan, sound, some, line-is, product_is)
-together_says (of_refusal answer refuses line-is product_is) =
-    let bounds = refusal_numbers answer refuses.fails_with in
-    inr (refuses.number, bounds.0, bounds.1, line-is ∙ ap opening_line refuses.fails_with, product_is)
+together_says (of_refusal refusal line-is product_is) =
+    let bounds = refusal_numbers refusal in
+    inr (refusal_number refusal, bounds.0, bounds.1, line-is, product_is)
 
 -- `listing`: a line, and no product
 pub listing_writes_a_line : {line product : List ℕ} → Together Listing line product → (0 < length line) × (product ≡ [])
-unfolding line_of written_product listed_line
+unfolding written_of listed_line
 listing_writes_a_line (of_record c scan sound some line-is product_is) =
     (rw line-is (reply_line_has_bytes (record_fed c scan).outcome.reply (record_fed c scan).outcome.buffer), product_is)
-listing_writes_a_line (of_refusal answer refuses line-is product_is) = (rw line-is (opening_line_has_bytes (verdict_of answer) refuses.fails_with), product_is)
-
-one_by_reply : (reply : Reply) (line product : List ℕ) → line ≡ error_line reply → length product ≡ output_size reply
-    → ((line ≡ []) × (length product ≡ 8706)) ⊎ ((0 < length line) × (length product ≡ 0))
-unfolding error_line output_size
-one_by_reply (delivered n) line product line-is long = inl (line-is, long)
-one_by_reply (refused n) line product line-is long = inr (rw line-is (refused_line_has_bytes n), long)
+listing_writes_a_line (of_refusal refusal line-is product_is) = (rw line-is (opening_line_has_bytes (refusal_number refusal)), product_is)
 
 -- `calibrate`: a whole product and no line, or a line and no product
 pub calibrate_writes_one : {line product : List ℕ} → Together Calibrate line product → ((line ≡ []) × (length product ≡ 8706)) ⊎ ((0 < length line) × (length product ≡ 0))
-unfolding line_of calibrated_line
-calibrate_writes_one {line} {product} (of_record c scan sound some line-is product_is) =
-    one_by_reply (record_fed c scan).outcome.reply line product line-is (ap length product_is ∙ written_size c scan)
-calibrate_writes_one (of_refusal answer refuses line-is product_is) = inr (rw line-is (opening_line_has_bytes (verdict_of answer) refuses.fails_with), ap length product_is)
+calibrate_writes_one (of_record c scan sound some line-is product_is) =
+    ⊎_elim
+    (λ whole. inl (line-is ∙ whole.0, ap length product_is ∙ whole.1))
+    (λ line. inr (rw (line-is ∙ line.1) (refused_line_has_bytes line.0), ap length (product_is ∙ line.2)))
+    (one_is_written c scan)
+calibrate_writes_one (of_refusal refusal line-is product_is) = inr (rw line-is (opening_line_has_bytes (refusal_number refusal)), ap length product_is)
 
 -- ---- what a stream gets
 
 -- the standard error of `listing`: nothing but its last line
-pub listing_errors : {bytes : List ℕ} → Due Listing standard_error bytes → (stop : Stop) × (bytes ≡ stop_line stop)
-listing_errors (line_due product together to_is) = absurd (let z : ◌≡◌ {A = ℕ} 2 1 = cc in omega arith)
-listing_errors (product_due line together to_is) = absurd (let z : ◌≡◌ {A = ℕ} 2 1 = cc in omega arith)
+pub listing_errors : {bytes : List ℕ} → Due Listing Errors bytes → (stop : Stop) × (bytes ≡ stop_line stop)
+listing_errors (line_due product together to_is) = absurd (let z : ◌≡◌ {A = ℕ} 0 1 = cc in omega arith)
+listing_errors (product_due line together to_is) = absurd (let z : ◌≡◌ {A = ℕ} 0 1 = cc in omega arith)
 listing_errors (stop_due stop bytes-is to_is) = (stop, bytes-is)
 
 -- the standard output of `calibrate`: nothing but whole products
-pub calibrate_output : {bytes : List ℕ} → Due Calibrate standard_output bytes → (length bytes ≡ 0) ⊎ (length bytes ≡ 8706)
-calibrate_output (line_due product together to_is) = absurd (let z : ◌≡◌ {A = ℕ} 1 2 = cc in omega arith)
+pub calibrate_output : {bytes : List ℕ} → Due Calibrate Output bytes → (length bytes ≡ 0) ⊎ (length bytes ≡ 8706)
+calibrate_output (line_due product together to_is) = absurd (let z : ◌≡◌ {A = ℕ} 0 1 = cc in omega arith)
 calibrate_output (product_due line together to_is) = ⊎_elim (λ whole. inr whole.1) (λ none. inl none.1) (calibrate_writes_one together)
-calibrate_output (stop_due stop bytes-is to_is) = absurd (let z : ◌≡◌ {A = ℕ} 1 2 = cc in omega arith)
+calibrate_output (stop_due stop bytes-is to_is) = absurd (let z : ◌≡◌ {A = ℕ} 0 1 = cc in omega arith)
 
 -- ---- which records a run has fed
 

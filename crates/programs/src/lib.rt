@@ -8,30 +8,24 @@
 
 ghost use Rattle.std.specs.Prelude.{◌≡◌};
 ghost use Rattle.io.specs.Counts.{IsPrefixLen};
-ghost use Rattle.lists.specs.Build.{put};
-ghost use Rattle.table.specs.Opening.{opening, AcceptedTable};
+ghost use Rattle.table.specs.Opening.{opening};
 ghost use Rattle.bias.specs.Opening.{bias_opening};
 ghost use Rattle.calibrator.specs.Feeding.{Sound};
-ghost use Rattle.programs.specs.declared.Program.TheVariants as programs;
 ghost use Rattle.programs.specs.Streams.{lines_to, output_took};
-ghost use Rattle.programs.specs.Steps.{line_of, made_of, product_left, next_after, Refuses, Together, Due};
+ghost use Rattle.programs.specs.Steps.{line_in, product_in, made_of, product_left, next_after, Together, Due};
 ghost use Rattle.programs.specs.Runs.{ReadTo, TurnOf, TurnIn, Ran, Unfed, UnderBias, UnderTable, UnderFiles};
 
 use bias::BIAS_SIZE;
 use calibrator::Calibrator;
-use lines::{LONGEST, Stop};
+use lines::{Made, Stop, Written};
 use product::PRODUCT_SIZE;
 use record::RECORD_SIZE;
 use std::fs::File;
 use std::io::Read;
-use table::{Opening, TABLE_SIZE, Table};
+use table::{TABLE_SIZE, Table};
 
-// The numbers of the streams that are written to.
-const STDOUT_FILENO: i32 = 1;
-
-const STDERR_FILENO: i32 = 2;
-
-#[derive(Clone, Copy)]
+// Matched in two places: a trait with two impls and their ghost members would be longer.
+#[derive(Clone, Copy, Debug, PartialEq, Eq)]
 pub enum Program {
     // Document 01, "Listing program".
     Listing,
@@ -39,27 +33,26 @@ pub enum Program {
     Calibrate,
 }
 
-// Whether there may be another record.
-#[derive(Clone, Copy)]
+// What is written to: standard output or standard error.
+#[derive(Clone, Copy, Debug, PartialEq, Eq)]
+enum Stream {
+    Output,
+    Errors,
+}
+
+// Whether there may be another record. Three ways, in one enum: a `Result` of an `Option` would be taken apart twice at each match.
+#[derive(Clone, Copy, Debug, PartialEq, Eq)]
 enum Next {
     More,
     Ended,
     Stopped(Stop),
 }
 
-// How many bytes of a record were read, and what comes after them.
+// How many bytes of a record were read, and what comes after them. The bytes stay in the lent buffer: `Read` fills a part of it.
 #[derive(Clone, Copy)]
 struct Got {
     size: usize,
     next: Next,
-}
-
-// The calibrator that is handed back, and how many bytes of the line and of the product are written.
-#[derive(Clone, Copy)]
-struct Made {
-    calibrator: Calibrator,
-    line: usize,
-    product: usize,
 }
 
 // What comes after a record, and the calibrator that is handed back.
@@ -71,58 +64,19 @@ struct Turned {
 
 // ---- what is made of a record
 
-// The line of a record, and no product.
-fn list(calibrator: Calibrator, scan: &[u8], line: &mut [u8; LONGEST]) -> Made
-    requires { Sound calibrator }
-    ensures prefix_len { IsPrefixLen result.line line.new }
-    ensures value { (result ≡ made_of programs.Listing calibrator scan.now) × (line.new ≡ put line.old 0 (line_of programs.Listing calibrator scan.now)) × Sound result.calibrator }
-{
-    let listed = lines::list_record(calibrator, scan, line);
-    let after = listed.calibrator;
-    Made {
-        calibrator: after,
-        line: listed.size,
-        product: 0,
-    }
-}
-
-// The product of a record, or the line of its refusal: of the two one is empty.
-fn calibrate(
-    calibrator: Calibrator,
-    scan: &[u8],
-    product: &mut [u8; PRODUCT_SIZE],
-    line: &mut [u8; LONGEST],
-) -> Made
-    requires { Sound calibrator }
-    ensures prefix_len { IsPrefixLen result.product product.new }
-    ensures prefix_len_2 { IsPrefixLen result.line line.new }
-    ensures value { (result ≡ made_of programs.Calibrate calibrator scan.now) × (product.new ≡ product_left programs.Calibrate calibrator scan.now product.old) × (line.new ≡ put line.old 0 (line_of programs.Calibrate calibrator scan.now)) × Sound result.calibrator }
-{
-    let calibrated = lines::calibrate_record(calibrator, scan, product, line);
-    let after = calibrated.calibrator;
-    Made {
-        calibrator: after,
-        line: calibrated.errors,
-        product: calibrated.output,
-    }
-}
-
-// Feeds a record and writes its line and its product into the buffers.
+// Feeds a record: the line of it, or its product in the buffer.
 fn write_record(
     program: Program,
     calibrator: Calibrator,
     scan: &[u8],
     product: &mut [u8; PRODUCT_SIZE],
-    line: &mut [u8; LONGEST],
 ) -> Made
-    requires { Sound calibrator }
-    ensures prefix_len { IsPrefixLen result.product product.new }
-    ensures prefix_len_2 { IsPrefixLen result.line line.new }
-    ensures value { (result ≡ made_of program calibrator scan.now) × (product.new ≡ product_left program calibrator scan.now product.old) × (line.new ≡ put line.old 0 (line_of program calibrator scan.now)) × Sound result.calibrator }
+    ensures made { result ≡ made_of program calibrator scan.now }
+    ensures product { product.new ≡ product_left program calibrator scan.now product.old }
 {
     match program {
-        Program::Listing => list(calibrator, scan, line),
-        Program::Calibrate => calibrate(calibrator, scan, product, line),
+        Program::Listing => lines::list_record(calibrator, scan),
+        Program::Calibrate => lines::calibrate_record(calibrator, scan, product),
     }
 }
 
@@ -131,59 +85,65 @@ fn next_after(next: Next, complete: bool) -> Next
     ensures { result ≡ next_after next complete }
 {
     if complete {
-        return next;
+        next
+    } else {
+        Next::Stopped(Stop::OutputUnwritten)
     }
-    Next::Stopped(Stop::OutputUnwritten)
 }
 
 // ---- what is written
 
+// `rt` and `program` go side by side: a struct of both would have a lifetime, and each contract would name the program through it.
+
 // Where the lines go.
-fn lines_to(program: Program) -> i32
+fn lines_to(program: Program) -> Stream
     ensures { result ≡ lines_to program }
 {
     match program {
-        Program::Listing => STDOUT_FILENO,
-        Program::Calibrate => STDERR_FILENO,
+        Program::Listing => Stream::Output,
+        Program::Calibrate => Stream::Errors,
     }
 }
 
-// Whether standard output took all: products go on where a refusal cannot be written.
-fn output_took(program: Program, line: bool, product: bool) -> bool
-    ensures { result ≡ output_took program line product }
+// Whether standard output took all that was for it: products go on where a refusal cannot be written.
+fn output_took(to: Stream, taken: bool) -> bool
+    ensures { result ≡ output_took to taken }
 {
-    match program {
-        Program::Listing => line,
-        Program::Calibrate => product,
+    match to {
+        Stream::Output => taken,
+        Stream::Errors => true,
     }
 }
 
 // All that is written, with bytes and a stream that are stated. Open: that it writes them there, and answers whether it did.
-fn write_to(rt: &HostRuntime, program: Program, to: i32, bytes: &[u8]) -> bool
+fn write_to(rt: &HostRuntime, program: Program, to: Stream, bytes: &[u8]) -> bool
     requires { Due program to bytes.now }
 {
-    let written = if to == STDOUT_FILENO {
-        rt.stdout().write_all(bytes)
-    } else {
-        rt.stderr().write_all(bytes)
+    let written = match to {
+        Stream::Output => rt.stdout().write_all(bytes),
+        Stream::Errors => rt.stderr().write_all(bytes),
     };
     written.is_ok()
 }
 
-// Writes a line, then a product, and answers whether standard output took all. For an empty one `write_all` makes no call.
-fn hand_over(rt: &HostRuntime, program: Program, line: &[u8], product: &[u8]) -> bool
-    requires { Together program line.now product.now }
+// Writes a line or the product, and answers whether standard output took all.
+fn hand_over(rt: &HostRuntime, program: Program, written: &Written, product: &[u8]) -> bool
+    requires { Together program (line_in written.now) (product_in written.now product.now) }
 {
-    let line_taken = write_to(rt, program, lines_to(program), line);
-    let product_taken = write_to(rt, program, STDOUT_FILENO, product);
-    output_took(program, line_taken, product_taken)
+    match written {
+        Written::Product => write_to(rt, program, Stream::Output, product),
+        Written::Line(line) => {
+            let to = lines_to(program);
+            let taken = write_to(rt, program, to, line.as_bytes());
+            output_took(to, taken)
+        }
+    }
 }
 
 // Says why the program ends early, as far as standard error can be written.
 fn say_stop(rt: &HostRuntime, program: Program, stop: Stop) {
-    let mut line = [0u8; LONGEST];
-    let size = lines::stop_line(stop, &mut line);
-    write_to(rt, program, STDERR_FILENO, &line[..size]);
+    let line = lines::stop_line(stop);
+    write_to(rt, program, Stream::Errors, line.as_bytes());
 }
 
 // ---- turns
@@ -195,31 +155,38 @@ fn read_record(rt: &HostRuntime, scan: &mut [u8; RECORD_SIZE]) -> Got
     ensures read_to { ReadTo result.size result.next }
 {
     let mut input = rt.stdin();
-    let whole: &mut [u8] = scan;
     let mut size = 0;
-    while size < whole.len() {
-        match input.read(&mut whole[size..]) {
+    while size < RECORD_SIZE {
+        match input.read(&mut scan[size..]) {
             Err(_) => {
                 return Got {
                     size,
                     next: Next::Stopped(Stop::InputUnread),
                 };
             }
-            Ok(more) => {
-                if more == 0 {
-                    return Got {
-                        size,
-                        next: Next::Ended,
-                    };
-                }
-                size += more;
+            Ok(0) => {
+                return Got {
+                    size,
+                    next: Next::Ended,
+                };
             }
+            Ok(more) => size += more,
         }
     }
     Got {
         size,
         next: Next::More,
     }
+}
+
+// Does nothing. Every calibrator keeps to its ranges, which its own methods ensure part by part.
+fn keeps_ranges(calibrator: &Calibrator)
+    ensures { Sound calibrator.now }
+{
+    let _ = calibrator.table().bytes();
+    let _ = calibrator.bias().bytes();
+    let _ = calibrator.window();
+    let _ = calibrator.last();
 }
 
 // Deals with what was read. What came before an end or a failed read is a short record, which is refused.
@@ -230,22 +197,18 @@ fn step(
     scan: &[u8],
     next: Next,
 ) -> Turned
-    requires { Sound calibrator }
-    ensures { TurnOf calibrator scan.now next result × Sound result.calibrator }
+    ensures { TurnOf calibrator scan.now next result }
 {
-    if scan.len() == 0 {
+    if scan.is_empty() {
         return Turned { next, calibrator };
     }
+    keeps_ranges(&calibrator);
     let mut product = [0u8; PRODUCT_SIZE];
-    let mut line = [0u8; LONGEST];
-    let made = write_record(program, calibrator, scan, &mut product, &mut line);
-    let handed_back = made.calibrator;
-    let line_size = made.line;
-    let product_size = made.product;
-    let complete = hand_over(rt, program, &line[..line_size], &product[..product_size]);
+    let made = write_record(program, calibrator, scan, &mut product);
+    let complete = hand_over(rt, program, &made.written, &product);
     Turned {
         next: next_after(next, complete),
-        calibrator: handed_back,
+        calibrator: made.calibrator,
     }
 }
 
@@ -256,34 +219,23 @@ fn turn(
     calibrator: Calibrator,
     scan: &mut [u8; RECORD_SIZE],
 ) -> Turned
-    requires { Sound calibrator }
-    ensures { TurnIn calibrator scan.new result × Sound result.calibrator }
+    ensures { TurnIn calibrator scan.new result }
 {
     let got = read_record(rt, scan);
-    let size = got.size;
-    let next = got.next;
-    let whole: &[u8] = scan;
-    step(rt, program, calibrator, &whole[..size], next)
+    step(rt, program, calibrator, &scan[..got.size], got.next)
 }
 
-// A proved loop has to end: it counts its turns down from a number that no stream of records uses up.
+// A proved loop has to end: it has a number of turns that no stream of records uses up.
 fn each_record(rt: &HostRuntime, program: Program, calibrator: Calibrator) -> Turned
-    requires { Sound calibrator }
     ensures { Ran calibrator result }
 {
     let mut scan = [0u8; RECORD_SIZE];
     let mut state = calibrator;
-    let mut turns = u64::MAX;
-    while turns > 0 {
-        let t = turn(rt, program, state, &mut scan);
-        let next = t.next;
-        match next {
-            Next::More => {
-                state = t.calibrator;
-                turns -= 1;
-            }
-            Next::Ended => return t,
-            Next::Stopped(_) => return t,
+    for _ in 0..u64::MAX {
+        let turned = turn(rt, program, state, &mut scan);
+        match turned.next {
+            Next::More => state = turned.calibrator,
+            Next::Ended | Next::Stopped(_) => return turned,
         }
     }
     Turned {
@@ -295,30 +247,23 @@ fn each_record(rt: &HostRuntime, program: Program, calibrator: Calibrator) -> Tu
 // ---- the files
 
 // The line of a refused table or bias file. Where standard error does not take that line, it takes no other.
-fn refuse(rt: &HostRuntime, program: Program, answer: Opening) -> Next
-    requires { Refuses answer }
+fn refuse(rt: &HostRuntime, program: Program, refusal: table::Refusal) -> Next
     ensures { Unfed result }
 {
-    let mut line = [0u8; LONGEST];
-    let size = lines::opening_line(answer, &mut line);
-    let complete = hand_over(rt, program, &line[..size], b"");
+    let line = lines::opening_line(Err(refusal));
+    let complete = hand_over(rt, program, &Written::Line(line), b"");
     next_after(Next::Ended, complete)
 }
 
-// Reads until `bytes` is full, the file ends or a read fails, and answers how many bytes were read.
+// Reads until `bytes` is full, the file ends or a read fails, and answers how many bytes were read: `Read` fills a part.
 fn read_full(file: &mut File, bytes: &mut [u8]) -> usize
     ensures { IsPrefixLen result bytes.new }
 {
     let mut size = 0;
     while size < bytes.len() {
         match file.read(&mut bytes[size..]) {
-            Err(_) => return size,
-            Ok(more) => {
-                if more == 0 {
-                    return size;
-                }
-                size += more;
-            }
+            Err(_) | Ok(0) => return size,
+            Ok(more) => size += more,
         }
     }
     size
@@ -337,14 +282,11 @@ fn read_file(rt: &HostRuntime, name: &str, bytes: &mut [u8]) -> usize
 
 // A refused bias file gives its line alone, and no record is read.
 fn with_bias(rt: &HostRuntime, program: Program, table: Table, bytes: &[u8]) -> Next
-    requires { AcceptedTable table.bytes }
     ensures { UnderBias (bias_opening bytes.now) table bytes.now result }
 {
-    let opened = bias::open(bytes);
-    let answer = opened.answer;
-    match answer {
-        Opening::Accepted => each_record(rt, program, Calibrator::fresh(table, opened.bias())).next,
-        _ => refuse(rt, program, answer),
+    match bias::open(bytes) {
+        Ok(bias) => each_record(rt, program, Calibrator::fresh(table, bias)).next,
+        Err(refusal) => refuse(rt, program, refusal),
     }
 }
 
@@ -352,15 +294,13 @@ fn with_bias(rt: &HostRuntime, program: Program, table: Table, bytes: &[u8]) -> 
 fn with_table(rt: &HostRuntime, program: Program, bytes: &[u8]) -> Next
     ensures { UnderTable (opening bytes.now) bytes.now result }
 {
-    let opened = table::open(bytes);
-    let answer = opened.answer;
-    match answer {
-        Opening::Accepted => {
+    match table::open(bytes) {
+        Ok(table) => {
             let mut pairs = [0u8; BIAS_SIZE + 1];
             let n = read_file(rt, "bias.bin", &mut pairs);
-            with_bias(rt, program, opened.table(), &pairs[..n])
+            with_bias(rt, program, table, &pairs[..n])
         }
-        _ => refuse(rt, program, answer),
+        Err(refusal) => refuse(rt, program, refusal),
     }
 }
 
@@ -373,9 +313,7 @@ fn with_files(rt: &HostRuntime, program: Program) -> Next
 }
 
 pub fn run(rt: &HostRuntime, program: Program) {
-    let next = with_files(rt, program);
-    match next {
-        Next::Stopped(stop) => say_stop(rt, program, stop),
-        _ => {}
+    if let Next::Stopped(stop) = with_files(rt, program) {
+        say_stop(rt, program, stop);
     }
 }

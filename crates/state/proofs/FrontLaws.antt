@@ -1,9 +1,11 @@
--- The layout that the code lends to the reader of fields.
+-- The layout that the code lends to the reader of fields is that of a state, here in numbers.
 use mathlib.Core.Path.{◌≡◌, refl}
 use mathlib.Core.List.{[], ◌∷◌}
-use Rattle.fields.specs.Fields.{layout_of}
+use Rattle.fields.specs.Fields.{field}
+use Rattle.state.specs.declared.TheConstants.{LAYOUT}
 use Rattle.state.specs.State.{state_layout}
 
-pub lent_layout : layout_of (0x30 ∷ 0x31 ∷ 0x32 ∷ 0x33 ∷ 0x34 ∷ 0x35 ∷ 0x36 ∷ 0x37 ∷ []) (8 ∷ 1404 ∷ 5 ∷ 704 ∷ 704 ∷ 480 ∷ 8451 ∷ 796 ∷ []) ≡ state_layout
-unfolding layout_of
-lent_layout = refl
+pub lent_layout
+    : (LAYOUT ≡ state_layout)
+    × (state_layout ≡ field 0x30 8 ∷ field 0x31 1404 ∷ field 0x32 5 ∷ field 0x33 704 ∷ field 0x34 704 ∷ field 0x35 480 ∷ field 0x36 8451 ∷ field 0x37 796 ∷ [])
+lent_layout = (refl, refl)

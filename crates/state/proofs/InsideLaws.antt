@@ -4,7 +4,7 @@ use native.Mathlib.Decide.{dec_lt}
 use native.Mathlib.Omega.{arith}
 use mathlib.Core.Path.{◌≡◌, refl, sym, ◌∙◌}
 use mathlib.Core.List.{List, [], ◌∷◌}
-use mathlib.Core.Bool.{Bool, true, false, ◌&&◌, ◌||◌, and-eq-true_iff}
+use mathlib.Core.Bool.{Bool, true, false, ◌&&◌, ◌||◌, and-eq-true_iff, or-true}
 use mathlib.Core.Logic.{◌⊎◌, inl, inr, ⊎_elim}
 use lib.Dec.{eqb, ltb, leb}
 use lib.ListN.{length, get_or, get_or-eq_default}
@@ -51,15 +51,11 @@ module _ (reached low high : ℕ) (numbers : List ℕ) where
       none_holds : number i ≡ 0 → holds_at_lem i ≡ true
       none_holds none = rw (eq-eqb (number i) 0 none)
 
-      or_true : (b : Bool) → (b || true) ≡ true
-      or_true true = refl
-      or_true false = refl
-
       by_place : Dec (i < reached) → holds_at_lem i ≡ true
       by_place (no behind) = none_holds (past (omega arith))
       by_place (yes inside) =
           ⊎_elim none_holds
-          (λ between. rw (lt-ltb i reached inside, le-leb low (number i) between.0, le-leb (number i) high between.1) (or_true (eqb (number i) 0)))
+          (λ between. rw (lt-ltb i reached inside, le-leb low (number i) between.0, le-leb (number i) high between.1) (or-true (eqb (number i) 0)))
           range
 
   pub inside_when_each : ((i : ℕ) → NoneOr low high (number i)) → ((i : ℕ) → reached ≤ i → number i ≡ 0) → numbers_inside reached low high numbers ≡ true
@@ -78,33 +74,32 @@ none_or_at_most (suc x) within = inr (omega arith, within)
 pub window_in_range : {w : Window} → window_inside w ≡ true → WindowRange w
 unfolding window_inside
 window_in_range {w} inside =
-    let reached = ages_reached w.any w.last in
+    let reached = ages_reached w.last in
     let counts = channels * reached in
     let kelvins = thermometers * reached in
-    let tests = (w.any || eqb w.last 0) ∷ numbers_inside counts 1 most_kept w.warm ∷ numbers_inside counts 1 most_kept w.cold ∷ numbers_inside kelvins least_kelvin most_kelvin w.kelvin ∷ [] in
+    let tests = numbers_inside counts 1 most_kept w.warm ∷ numbers_inside counts 1 most_kept w.cold ∷ numbers_inside kelvins least_kelvin most_kelvin w.kelvin ∷ [] in
     record {
-      warm = λ i. at_most (each_in_range counts 1 most_kept w.warm (each_of_all tests inside 1) i);
-      cold = λ i. at_most (each_in_range counts 1 most_kept w.cold (each_of_all tests inside 2) i);
-      kelvin = each_in_range kelvins least_kelvin most_kelvin w.kelvin (each_of_all tests inside 3);
+      warm = λ i. at_most (each_in_range counts 1 most_kept w.warm (each_of_all tests inside 0) i);
+      cold = λ i. at_most (each_in_range counts 1 most_kept w.cold (each_of_all tests inside 1) i);
+      kelvin = each_in_range kelvins least_kelvin most_kelvin w.kelvin (each_of_all tests inside 2);
     }
 
 -- a number stands only at an age that an accepted scan can have
 pub record ReachedOnly (w : Window) : Type 0 where
-  pub last : (w.any || eqb w.last 0) ≡ true
-  pub warm : (i : ℕ) → channels * ages_reached w.any w.last ≤ i → get_or w.warm i 0 ≡ 0
-  pub cold : (i : ℕ) → channels * ages_reached w.any w.last ≤ i → get_or w.cold i 0 ≡ 0
-  pub kelvin : (i : ℕ) → thermometers * ages_reached w.any w.last ≤ i → get_or w.kelvin i 0 ≡ 0
+  pub warm : (i : ℕ) → channels * ages_reached w.last ≤ i → get_or w.warm i 0 ≡ 0
+  pub cold : (i : ℕ) → channels * ages_reached w.last ≤ i → get_or w.cold i 0 ≡ 0
+  pub kelvin : (i : ℕ) → thermometers * ages_reached w.last ≤ i → get_or w.kelvin i 0 ≡ 0
 
-all_four : {a b c d : Bool} → a ≡ true → b ≡ true → c ≡ true → d ≡ true → (a && (b && (c && (d && true)))) ≡ true
-all_four first second third fourth = rw (first, second, third, fourth)
+all_three : {a b c : Bool} → a ≡ true → b ≡ true → c ≡ true → (a && (b && (c && true))) ≡ true
+all_three first second third = rw (first, second, third)
 
 pub window_is_inside : {w : Window} → WindowRange w → ReachedOnly w → window_inside w ≡ true
 unfolding window_inside
 window_is_inside {w} range only =
-    let reached = ages_reached w.any w.last in
+    let reached = ages_reached w.last in
     let counts = channels * reached in
     let kelvins = thermometers * reached in
-    all_four only.last
+    all_three
     (inside_when_each counts 1 most_kept w.warm (λ i. none_or_at_most _ (range.warm i)) only.warm)
     (inside_when_each counts 1 most_kept w.cold (λ i. none_or_at_most _ (range.cold i)) only.cold)
     (inside_when_each kelvins least_kelvin most_kelvin w.kelvin range.kelvin only.kelvin)

@@ -1,8 +1,8 @@
+pub mod FrontLaws
 pub mod NumberLaws
 pub mod InsideLaws
 pub mod WindowLaws
 pub mod ReadBack
 pub mod StateLaws
 pub mod PutLaws
-pub mod FrontLaws
 pub mod Plain

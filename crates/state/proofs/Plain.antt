@@ -1,5 +1,5 @@
--- Bytes with another magic number, another version, or neither 0 nor 1 for whether a scan was accepted are no state, whatever else they hold;
--- numbers are written out.
+-- Bytes with another magic number, another version, neither 0 nor 1 for whether a scan was accepted, or 0 and another number behind it are no
+-- state, whatever else they hold; numbers are written out.
 use Prim.Native.Nat.{ℕ, ◌+◌, ◌-◌, ◌≤◌, ◌<◌}
 use native.Mathlib.Omega.{arith}
 use mathlib.Core.Path.{◌≡◌, sym, ap, ◌∙◌}
@@ -14,7 +14,7 @@ use Rattle.fields.specs.Numbers.{u32_at, u32_bytes}
 use Rattle.fields.specs.Fields.{layout_is_right}
 use Rattle.fields.proofs.FieldBytes.{u32_that_stands}
 use Rattle.state.specs.State.{state_layout, front_is_right, is_state}
-use Rattle.state.proofs.StateLaws.{and_fails, wrong_front_is_no_state}
+use Rattle.state.proofs.StateLaws.{and_fails, no_state_by, wrong_front_is_no_state}
 
 module _ (bytes : List ℕ) where
   -- `SNDR` in ASCII stands at place 3
@@ -36,6 +36,10 @@ module _ (bytes : List ℕ) where
   other_byte_is_no_state above =
       wrong_front_is_no_state bytes
       (and_fails (layout_is_right bytes 0 state_layout) (and_fails (eqb (u32_at bytes 3) 0x534E4452) (and_fails (eqb (u32_at bytes 7) 6) (rw (lt-leb (get_or bytes 1421 0) 1 above)))))
+
+  -- and where it is 0, the number of the last, at place 1,422, is 0 too
+  pub number_of_none_is_no_state : get_or bytes 1421 0 ≡ 0 → (u32_at bytes 1422 ≡ 0 → ⊥) → is_state bytes ≡ false
+  number_of_none_is_no_state none some = no_state_by bytes 3 (rw (none, ne_eqb (u32_at bytes 1422) 0 some))
 
 -- a number that is written in four bytes is read there
 written_is_read : (bytes : List ℕ) (at n : ℕ) → at ≤ length bytes → u32_at (put bytes at (u32_bytes n)) at ≡ n

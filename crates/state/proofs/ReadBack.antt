@@ -3,11 +3,13 @@ use Prim.Native.Nat.{ℕ, ◌+◌, ◌*◌, ◌<◌, ◌≤◌}
 use native.Mathlib.Nat.{add-zero}
 use native.Mathlib.Omega.{arith}
 use mathlib.Core.Path.{◌≡◌, refl, ap, ◌∙◌}
-use mathlib.Core.List.{List, [], ◌∷◌, ◌++◌}
-use mathlib.Core.Bool.{Bool, true, false, cond}
-use lib.Dec.{eqb, leb, lit<}
+use mathlib.Core.List.{List, [], ◌++◌}
+use mathlib.Core.Bool.{true}
+use lib.Dec.{lit<}
 use lib.ListN.{length, get_or, length-append}
+use Rattle.std.specs.Prelude.{is_some}
 use borrow.Author.Tests.{le-leb, eq-eqb}
+use Rattle.std.specs.Prelude.{is_some}
 use Rattle.lists.proofs.Stands.{StandsAt, part_that_stands, stands_inside, stands_at_front, stands_behind, stands_itself}
 use Rattle.fields.specs.Numbers.{u32_bytes}
 use Rattle.fields.specs.Fields.{layout_is_right, field_at, value_in, laid_out}
@@ -20,7 +22,7 @@ use Rattle.lastscan.proofs.NumberLaws.{length_numbers, last_read_back, last_is_i
 use Rattle.calibrator.specs.declared.Calibrator.{Calibrator}
 use Rattle.calibrator.specs.Feeding.{Sound}
 use Rattle.state.specs.State.{magic, version, counts_kept, kelvins_kept, state_layout, state_size, front_bytes, number_bytes, values_of, state_of, at, table_in, bias_in, window_in, last_numbers_in, calibrator_in, front_is_right, is_state}
-use Rattle.state.proofs.NumberLaws.{length_number_bytes, numbers_read_back}
+use Rattle.state.proofs.NumberLaws.{length_number_bytes, numbers_read_back, length_last_bytes, LastRead, last_is_read}
 use Rattle.state.proofs.InsideLaws.{ReachedOnly, window_is_inside}
 use Rattle.state.proofs.WindowLaws.{Shaped}
 
@@ -30,14 +32,14 @@ pub record Savable (c : Calibrator) : Type 0 where
   pub shaped : Shaped c.window
   pub only : ReachedOnly c.window
   -- a scan is kept only where one was accepted
-  pub accepted : c.last.any ≡ true → c.window.any ≡ true
+  pub accepted : is_some c.last ≡ true → is_some c.window.last ≡ true
 
 bytes_sized : (numbers : List ℕ) {n : ℕ} → length numbers ≡ n → length (number_bytes numbers) ≡ 4 * n
 bytes_sized numbers long = length_number_bytes numbers ∙ ap (λ (n : ℕ). 4 * n) long
 
 module _ {c : Calibrator} (savable : Savable c) where
   sized : Sized state_layout (values_of c)
-  sized = (refl, (accepted_length savable.sound.table, (refl, (bytes_sized c.window.warm savable.shaped.warm, (bytes_sized c.window.cold savable.shaped.cold, (bytes_sized c.window.kelvin savable.shaped.kelvin, (accepted_bias_length savable.sound.bias, (bytes_sized (numbers_of c.last) (length_numbers c.last), tt))))))))
+  sized = (refl, (accepted_length savable.sound.table, (length_last_bytes c.window.last, (bytes_sized c.window.warm savable.shaped.warm, (bytes_sized c.window.cold savable.shaped.cold, (bytes_sized c.window.kelvin savable.shaped.kelvin, (accepted_bias_length savable.sound.bias, (bytes_sized (numbers_of c.last) (length_numbers c.last), tt))))))))
 
   pub length_state : length (state_of c) ≡ state_size
   unfolding state_of
@@ -66,26 +68,14 @@ module _ {c : Calibrator} (savable : Savable c) where
     pub bias_read_back : bias_in state ≡ c.bias.bytes
     bias_read_back = value_read_back 6 (lit< tt) (accepted_bias_length savable.sound.bias)
 
-    last_stands : StandsAt state (at 2 + 1) (u32_bytes c.window.last)
-    last_stands =
-        let first : List ℕ = cond c.window.any 1 0 ∷ [] in
-        let number = u32_bytes c.window.last in
-        stands_inside state (first ++ number) number (at 2) 1 (omega arith) (stands 2 (lit< tt)) (stands_behind first number number 1 0 refl (stands_itself number))
-
-    any_byte : get_or state (at 2) 0 ≡ cond c.window.any 1 0
-    any_byte = (stands 2 (lit< tt)).each 0 0 (omega arith)
-
-    any_read : (any : Bool) → eqb (cond any 1 0) 1 ≡ any
-    any_read true = refl
-    any_read false = refl
+    last_read : LastRead state c.window.last
+    last_read = last_is_read state c.window.last (stands 2 (lit< tt))
 
     pub window_read_back : window_in state ≡ c.window
     unfolding window_in
     window_read_back =
         rw (
-          any_byte,
-          any_read c.window.any,
-          u32_that_stands state (at 2 + 1) c.window.last last_stands,
+          last_read.last,
           numbers_read_back c.window.warm state (at 3) counts_kept savable.shaped.warm (stands 3 (lit< tt)),
           numbers_read_back c.window.cold state (at 4) counts_kept savable.shaped.cold (stands 4 (lit< tt)),
           numbers_read_back c.window.kelvin state (at 5) kelvins_kept savable.shaped.kelvin (stands 5 (lit< tt)),
@@ -95,11 +85,7 @@ module _ {c : Calibrator} (savable : Savable c) where
     numbers_are_read_back = numbers_read_back (numbers_of c.last) state (at 7) last_numbers (length_numbers c.last) (stands 7 (lit< tt))
 
     pub read_back : calibrator_in state ≡ c
-    read_back = rw (table_read_back, bias_read_back, window_read_back, numbers_are_read_back, last_read_back savable.sound.last)
-
-    any_is_bit : (any : Bool) → leb (cond any 1 0) 1 ≡ true
-    any_is_bit true = refl
-    any_is_bit false = refl
+    read_back = rw (table_read_back, bias_read_back, window_read_back, numbers_are_read_back, last_read_back c.last savable.sound.last)
 
     front_is_right_lem : front_is_right state ≡ true
     unfolding front_is_right
@@ -110,8 +96,7 @@ module _ {c : Calibrator} (savable : Savable c) where
         let version-stands =
         stands_inside state front_bytes (u32_bytes version) (at 0) 4 (omega arith) front
         (stands_behind (u32_bytes magic) (u32_bytes version) (u32_bytes version) 4 0 refl (stands_itself (u32_bytes version))) in
-        let byte : leb (get_or state (at 2) 0) 1 ≡ true = rw any_byte (any_is_bit c.window.any) in
-        rw (laid, eq-eqb _ magic (u32_that_stands state (at 0) magic magic-stands), eq-eqb _ version (u32_that_stands state (at 0 + 4) version version-stands), byte)
+        rw (laid, eq-eqb _ magic (u32_that_stands state (at 0) magic magic-stands), eq-eqb _ version (u32_that_stands state (at 0 + 4) version version-stands), last_read.byte)
 
     pub is_state_lem : is_state state ≡ true
     unfolding is_state
@@ -123,8 +108,9 @@ module _ {c : Calibrator} (savable : Savable c) where
           savable.sound.table.accepted,
           bias_read_back,
           savable.sound.bias.accepted,
+          last_read.right,
           window_read_back,
           window_is_inside savable.sound.window savable.only,
           numbers_are_read_back,
-          last_is_inside savable.sound.last c.window.any savable.accepted,
+          last_is_inside c.last savable.sound.last (is_some c.window.last) savable.accepted,
         )

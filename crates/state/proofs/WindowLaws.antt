@@ -10,6 +10,7 @@ use mathlib.Core.Bool.{Bool, true, false, cond}
 use lib.Dec.{ltb}
 use lib.ListN.{length, get_or, get_or-eq_default}
 use borrow.Author.Tests.{lt-ltb, le-ltb}
+use Rattle.std.specs.Prelude.{Option, None, Some, IfSome}
 use Rattle.instrument.specs.Instrument.{channels, thermometers}
 use Rattle.table.specs.Opening.{ages}
 use Rattle.acceptance.specs.declared.Scan.{Scan}
@@ -32,17 +33,9 @@ empty_is_shaped = rw empty_window_is record { warm = refl; cold = refl; kelvin =
 pub empty_reached_only : ReachedOnly empty_window
 empty_reached_only =
     rw empty_window_is
-    record { last = refl; warm = λ i past. get_d_zeros counts_kept i; cold = λ i past. get_d_zeros counts_kept i; kelvin = λ i past. get_d_zeros kelvins_kept i }
+    record { warm = λ i past. get_d_zeros counts_kept i; cold = λ i past. get_d_zeros counts_kept i; kelvin = λ i past. get_d_zeros kelvins_kept i }
 
 -- ---- after an accepted scan
-
-pub reached_at_most : (any : Bool) (last : ℕ) → ages_reached any last ≤ ages
-reached_at_most false last = omega arith
-reached_at_most true last = by_place (dec_lt last ages)
-  where
-    by_place : Dec (last < ages) → ages_reached true last ≤ ages
-    by_place (yes early) = rw (lt-ltb last ages early) (omega arith)
-    by_place (no late) = rw (le-ltb last ages (omega arith)) (omega arith)
 
 -- the ages that are reached move on with the number: by the gap, or all are reached, or the gap leaves none
 pub data Moved (before gap after : ℕ) : Type 0 where
@@ -50,16 +43,15 @@ pub data Moved (before gap after : ℕ) : Type 0 where
   all_reached : after ≡ ages → Moved before gap after
   none_left : gap ≡ ages → Moved before gap after
 
-reached_moves : (any : Bool) (last number : ℕ) → (any ≡ true → last < number) → Moved (ages_reached any last) (gap_between any last number) (ages_reached true number)
-reached_moves false last number above = none_left refl
-reached_moves true last number above = by_places (dec_lt number ages) (dec_lt (number - last) ages)
+reached_moves : (last : Option ℕ) (number : ℕ) → IfSome last (λ n. n < number) → Moved (ages_reached last) (gap_between last number) (ages_reached (Some number))
+reached_moves None number above = none_left refl
+reached_moves (Some last) number above = by_places (dec_lt number ages) (dec_lt (number - last) ages)
   where
-    by_places : Dec (number < ages) → Dec (number - last < ages) → Moved (ages_reached true last) (gap_between true last number) (ages_reached true number)
+    by_places : Dec (number < ages) → Dec (number - last < ages) → Moved (ages_reached (Some last)) (gap_between (Some last) number) (ages_reached (Some number))
     by_places (no late) near = all_reached (rw (le-ltb number ages (omega arith)))
     by_places (yes early) (no far) = none_left (rw (le-ltb (number - last) ages (omega arith)))
     by_places (yes early) (yes near) =
-        let less : last < number = above refl in
-        let low : last < ages = omega arith in
+        let low : last < ages = omega (arith, above) in
         by_gap (rw (lt-ltb number ages early, lt-ltb (number - last) ages near, lt-ltb last ages low) (omega arith))
 
 -- one of the window's lists, in rows of n
@@ -101,22 +93,21 @@ module _ {w : Window} {scan : Scan} (number : ℕ) (shaped : Shaped w) (shape : 
     kelvin = shifted_length (gap_of w number) scan.kelvin w.kelvin ∙ shaped.kelvin;
   }
 
-  some_reached : 1 ≤ ages_reached true number
+  some_reached : 1 ≤ ages_reached (Some number)
   some_reached = by_test (ltb number ages)
     where
       by_test : (b : Bool) → 1 ≤ cond b (number + 1) ages
       by_test true = omega arith
       by_test false = omega arith
 
-  pub next_reached_only : (w.any ≡ true → w.last < number) → ReachedOnly w → ReachedOnly (window_after w number scan)
+  pub next_reached_only : IfSome w.last (λ n. n < number) → ReachedOnly w → ReachedOnly (window_after w number scan)
   unfolding window_after
   next_reached_only above only =
-      let before = ages_reached w.any w.last in
+      let before = ages_reached w.last in
       let gap = gap_of w number in
-      let after = ages_reached true number in
-      let moved = reached_moves w.any w.last number above in
+      let after = ages_reached (Some number) in
+      let moved = reached_moves w.last number above in
       record {
-        last = refl;
         warm = λ i past. shifted_is_none channels before gap after scan.warm w.warm shape.warm shaped.warm some_reached only.warm i past moved;
         cold = λ i past. shifted_is_none channels before gap after scan.cold w.cold shape.cold shaped.cold some_reached only.cold i past moved;
         kelvin = λ i past. shifted_is_none thermometers before gap after scan.kelvin w.kelvin shape.kelvin shaped.kelvin some_reached only.kelvin i past moved;

@@ -5,31 +5,50 @@
 ghost use Rattle.std.specs.Prelude.{◌≡◌, length};
 ghost use Rattle.lists.specs.Tests.{number_of};
 ghost use Rattle.thermometer.specs.Reading.{number, reading};
-ghost use Rattle.table.specs.Opening.{opening};
+ghost use Rattle.table.specs.Opening.{verdict_of, opening};
 ghost use Rattle.bias.specs.Opening.{bias_opening, both_opening};
 ghost use Rattle.state.specs.State.{state_size};
 ghost use Rattle.live.specs.Calls.{fresh_verdict, fresh_by, fed_state, CallLeaves, found_in, found_number, count_or};
+ghost use Rattle.live.specs.Answers.{answer_number};
 ghost use Rattle.station.specs.Calls.{library_version, units_or, answers_by, buffers_by};
 
 use calibrator::Calibrator;
-use thermometer::Reading;
+
+// The answer where no count fits.
+const NO_COUNT: u8 = 253;
+
+// 0, or the number of the refusal of an opening, and of a call on a state: C has numbers alone. These two and calibrator's `answer_number` are
+// three: each type of refusal has its own numbers, and a trait would need an impl with ghost members for each.
+fn opening_number<Opened: Drop>(answer: Result<Opened, table::Refusal>) -> u8
+    ensures { result ≡ number_of (verdict_of answer) }
+{
+    match answer {
+        Ok(_) => 0,
+        Err(refusal) => refusal as u8,
+    }
+}
+
+fn call_number(answer: Result<(), live::Refusal>) -> u8
+    ensures { result ≡ answer_number answer }
+{
+    match answer {
+        Ok(()) => 0,
+        Err(refusal) => refusal.number(),
+    }
+}
 
 // Document 01, "Opening a table": 0, or 1 to 3.
 pub fn sounder_open(table: &[u8]) -> u8
     ensures { result ≡ number_of (opening table.now) }
 {
-    let opened = table::open(table);
-    let answer = opened.answer;
-    table::refusal_number(answer)
+    opening_number(table::open(table))
 }
 
 // Request W1: opening a bias file: 0, or 1 to 3.
 pub fn sounder_open_bias(bias: &[u8]) -> u8
     ensures { result ≡ number_of (bias_opening bias.now) }
 {
-    let opened = bias::open(bias);
-    let outcome = opened.answer;
-    table::refusal_number(outcome)
+    opening_number(bias::open(bias))
 }
 
 // Document 01, "One thermometer": 0 and t in units of °C, or 8 to 10 and t as it was.
@@ -46,16 +65,40 @@ pub fn sounder_thermometer(
 ) -> u8
     ensures { (result ≡ number (reading r_pam r0 alpha delta beta pam offset count)) × (t.new ≡ units_or (reading r_pam r0 alpha delta beta pam offset count) t.old) }
 {
-    let answer = thermometer::thermometer(r_pam, r0, alpha, delta, beta, pam, offset, count);
-    match answer {
-        Reading::Units(units) => {
+    match thermometer::thermometer(r_pam, r0, alpha, delta, beta, pam, offset, count) {
+        Ok(units) => {
             *t = units as i32;
             0
         }
-        Reading::CoefficientOutside => 8,
-        Reading::PamNotAboveOffset => 9,
-        Reading::RatioOutside => 10,
+        Err(refusal) => refusal as u8,
     }
+}
+
+// Opens the table and the bias file, feeds a fresh calibrator the list, and answers the first refusal.
+fn feed_opened(
+    table: &[u8],
+    bias: &[u8],
+    scans: &[u8],
+    sizes: &[u32],
+    buffers: &mut [u8],
+    rooms: &[u32],
+    answers: &mut [u8],
+) -> Result<(), table::Refusal>
+    ensures verdict { verdict_of result ≡ both_opening table.now bias.now }
+    ensures answers { answers.new ≡ answers_by (both_opening table.now bias.now) table.now bias.now (record { scans = scans.now; sizes = sizes.now; buffers = buffers.old; rooms = rooms.now }) answers.old }
+    ensures buffers { buffers.new ≡ buffers_by (both_opening table.now bias.now) table.now bias.now (record { scans = scans.now; sizes = sizes.now; buffers = buffers.old; rooms = rooms.now }) (length answers.old) }
+{
+    let table = table::open(table)?;
+    let bias = bias::open(bias)?;
+    feeds::feed_list(
+        Calibrator::fresh(table, bias),
+        scans,
+        sizes,
+        buffers,
+        rooms,
+        answers,
+    );
+    Ok(())
 }
 
 // Opens the table and the bias file and, where both are accepted, feeds a fresh calibrator the list: 0, or the number of the first refusal.
@@ -70,27 +113,15 @@ pub fn sounder_feed_all(
 ) -> u8
     ensures { (result ≡ number_of (both_opening table.now bias.now)) × (answers.new ≡ answers_by (both_opening table.now bias.now) table.now bias.now (record { scans = records.now; sizes = record_lengths.now; buffers = buffers.old; rooms = buffer_lengths.now }) answers.old) × (buffers.new ≡ buffers_by (both_opening table.now bias.now) table.now bias.now (record { scans = records.now; sizes = record_lengths.now; buffers = buffers.old; rooms = buffer_lengths.now }) (length answers.old)) }
 {
-    let opened = table::open(table);
-    let answer = opened.answer;
-    let number = table::refusal_number(answer);
-    if number != 0 {
-        return number;
-    }
-    let opened_bias = bias::open(bias);
-    let second = opened_bias.answer;
-    let after = table::refusal_number(second);
-    if after != 0 {
-        return after;
-    }
-    feeds::feed_list(
-        Calibrator::fresh(opened.table(), opened_bias.bias()),
+    opening_number(feed_opened(
+        table,
+        bias,
         records,
         record_lengths,
         buffers,
         buffer_lengths,
         answers,
-    );
-    0
+    ))
 }
 
 // ---- scan by scan: the calibrator is a state in the caller's memory
@@ -106,14 +137,14 @@ pub fn sounder_state_size() -> usize
 pub fn sounder_fresh(table: &[u8], bias: &[u8], state: &mut [u8]) -> u8
     ensures { (result ≡ number_of (fresh_verdict table.now bias.now state.old)) × (state.new ≡ fresh_by (fresh_verdict table.now bias.now state.old) table.now bias.now state.old) }
 {
-    live::fresh(table, bias, state)
+    call_number(live::fresh(table, bias, state))
 }
 
 // Feeds a scan to the calibrator of a state: 0, 254 where the bytes are no state, or 4 to 7.
 pub fn sounder_feed(state: &mut [u8], scan: &[u8], buffer: &mut [u8]) -> u8
-    ensures { CallLeaves (fed_state state.old (record { scan = scan.entry.now; buffer = buffer.old })) result state.new buffer.new }
+    ensures { CallLeaves (fed_state state.old (record { scan = scan.now; buffer = buffer.old })) result state.new buffer.new }
 {
-    live::feed(state, scan, buffer)
+    call_number(live::feed(state, scan, buffer))
 }
 
 // Request W5, the count behind a temperature, by the calibrator of a state: 0 and the count; or 254 where the bytes are no state, 11, 12, or 253
@@ -121,7 +152,14 @@ pub fn sounder_feed(state: &mut [u8], scan: &[u8], buffer: &mut [u8]) -> u8
 pub fn sounder_count_behind(state: &[u8], channel: u32, wanted: u32, count: &mut u16) -> u8
     ensures { (result ≡ found_number (found_in state.now channel wanted)) × (count.new ≡ count_or (found_in state.now channel wanted) count.old) }
 {
-    live::count_behind(state, channel, wanted, count)
+    match live::count_behind(state, channel, wanted) {
+        Ok(Some(found)) => {
+            *count = found;
+            0
+        }
+        Ok(None) => NO_COUNT,
+        Err(refusal) => refusal.number(),
+    }
 }
 
 // 10,000 times the major, 100 times the minor and once the patch number of the version.

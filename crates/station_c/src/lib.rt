@@ -89,7 +89,7 @@ pub extern "C" fn sounder_fresh(table: &[u8], bias: &[u8], state: &mut [u8]) -> 
 // Feeds a scan to the calibrator of a state: 0, 254 where the bytes are no state, or 4 to 7.
 #[unsafe(no_mangle)]
 pub extern "C" fn sounder_feed(state: &mut [u8], scan: &[u8], buffer: &mut [u8]) -> u8
-    ensures { CallLeaves (fed_state state.old (record { scan = scan.entry.now; buffer = buffer.old })) result state.new buffer.new }
+    ensures { CallLeaves (fed_state state.old (record { scan = scan.now; buffer = buffer.old })) result state.new buffer.new }
 {
     station::sounder_feed(state, scan, buffer)
 }

@@ -1,12 +1,17 @@
 -- `each_record` meets its contract: no turn yet, one more turn, and the last one.
-use Rattle.std.proofs.Common.{arith}
-use Rattle.programs.proofs.RunLaws.{reached_none, reached_one_more}
+use Rattle.std.proofs.Common.{arith, refl, ⊎_elim}
+use Rattle.programs.proofs.RunLaws.{ended_is_not_more, stopped_is_not_more, reached_none, reached_one_more, ran_to_an_end, ran_all_turns}
 use Rattle.programs.proofs.each_record.Goals as goal
 
-pub loop-turns-init : goal.loop-turns-init
-loop-turns-init c = (c.requires, omega arith, reached_none c.args.calibrator)
+pub loop-init : goal.loop-init
+loop-init c = reached_none c.args.calibrator
 
-pub loop-turns-preserved : goal.loop-turns-preserved
-loop-turns-preserved c =
-    let inv = c.loop-turns.invariant in
-    (c.turn-t.ensures.1, omega arith, reached_one_more inv.2 c.turn-t.ensures.0 c.in-More.is (omega arith))
+pub loop-preserved : goal.loop-preserved
+loop-preserved c = reached_one_more c.loop.invariant c.turn-turned.ensures c.in-More.is refl
+
+pub returns-in-Ended : goal.returns-in-Ended
+returns-in-Ended c =
+    ran_to_an_end c.loop.invariant c.turn-turned.ensures (⊎_elim (λ ended. ended_is_not_more ended) (λ stopped. stopped_is_not_more stopped.1) c.in-Ended.is)
+
+pub returns : goal.returns
+returns c = ran_all_turns c.loop.invariant (omega arith)

@@ -1,12 +1,12 @@
--- `hand_over` meets what `write_to` asks: the line goes to the program's stream, the product to standard output.
-use Rattle.std.proofs.Common.{refl, ◌∙◌}
-use mir.Syntax.{w32}
-use mir.ValLaws.{to_z-of_z}
+-- `hand_over` meets what `write_to` asks: the product goes to standard output, the line to the program's stream.
+use Rattle.std.proofs.Common.{[], refl}
 use Rattle.programs.specs.Steps.{line_due, product_due}
 use Rattle.programs.proofs.hand_over.Goals as goal
 
-pub write_to-line_taken-requires : goal.write_to-line_taken-requires
-write_to-line_taken-requires c = line_due c.args.product.now c.requires (to_z-of_z w32 _ (record { sfits = c.lines_to.type_inv }) ∙ c.lines_to.ensures)
+pub write_to-requires : goal.write_to-requires
+write_to-requires c = product_due [] (rw c.in-Product.is at c.requires) refl
 
-pub write_to-product_taken-requires : goal.write_to-product_taken-requires
-write_to-product_taken-requires c = product_due c.args.line.now c.requires refl
+pub write_to-taken-requires : goal.write_to-taken-requires
+write_to-taken-requires c =
+    let together = rw c.in-Line.is at c.requires in
+    line_due [] (rw c.as_bytes.ensures together) c.lines_to-to.ensures
