@@ -15,7 +15,7 @@ ghost use Rattle.lastscan.specs.Numbers.{high_half, low_half, complement, number
 use instrument::CHANNELS;
 use scene::{Channel, Constants, Flag};
 
-// Its channels; none before the first accepted scan.
+// The channels of the last accepted scan; none before the first.
 pub type LastScan = Option<[Channel; CHANNELS]>;
 
 // How many numbers a channel has, and a scan.
@@ -182,7 +182,7 @@ fn constants_by(part: &[u32; CHANNEL_NUMBERS]) -> Constants
     }
 }
 
-// A match: a try_from in `scene` would refuse numbers above 4, and have its refusal taken apart here, where `last_inside` has tested them.
+// A match: a `try_from` in `scene` would refuse numbers above 4, which have flag 4 here and which `last_inside` refuses.
 #[tactic(auto, unfolding(scene::specs::Channel::channel_with))]
 fn channel_by(part: &[u32; CHANNEL_NUMBERS]) -> Channel
     requires { SmallPart part.now }

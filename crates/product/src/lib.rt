@@ -111,7 +111,7 @@ impl Summary {
     }
 }
 
-// What turns the counts of a channel into temperatures; a flagged channel has nothing of the kind.
+// What turns the counts of a channel into temperatures; a flagged channel has its flag alone.
 fn curve_of(channel: Channel) -> Result<Curve, Flag>
     requires { ChannelRange channel }
     ensures { CurveOf channel result }
@@ -140,7 +140,7 @@ fn write_channel(out: &mut [u8], channel: Channel, pairs: &[u32], part: &[u8]) -
 {
     let curve = curve_of(channel);
     let mut summary = Summary::none();
-    // By index: position i has two numbers, two bytes and four bytes in rows of its own, which a zip of three `chunks_exact` would say no plainer.
+    // By index: position i has two numbers, two bytes and four bytes in three rows, which a zip of three `chunks_exact` would say no plainer.
     for i in 0..POSITIONS {
         let bias = ScanBias {
             factor: pairs[2 * i],

@@ -200,7 +200,7 @@ impl Curve {
         Scene::Kelvin(kelvin_of(bias.biased_units(t)))
     }
 
-    // T of a count before scan bias, for one who looks for a T: -1 where N is negative and 2^32 where 4N exceeds 5D, so that it never falls from a
+    // T of a count before scan bias, for a search for a T: -1 where N is negative and 2^32 where 4N exceeds 5D, so that it never falls from a
     // count to the next.
     pub fn placed_units(self, count: u16) -> i64
         ensures { result ≡ placed self.constants count }

@@ -114,7 +114,7 @@ fn put_field(out: &mut [u8], at: usize, field: Field, value: &[u8])
     lists::copy(value, out, at + HEAD);
 }
 
-// A field whose value is these numbers. A twin of `put_field`: a trait over bytes and numbers, or a closure at each of seven calls, would be longer.
+// A field whose value is these numbers. A twin of `put_field`: a trait over bytes and numbers, or a closure at each of eight calls, would be longer.
 fn put_number_field(out: &mut [u8], at: usize, field: Field, numbers: &[u32])
     requires { (4 * length numbers.now ≡ field.size) × (at + head_size + 4 * length numbers.now ≤ length out.old) }
     ensures { out.new ≡ put out.old at (field_bytes field (number_bytes numbers.now)) }
@@ -143,6 +143,8 @@ fn last_bytes(last: Option<u32>) -> [u8; 5]
 
 // ---- reading
 
+// A state's length is asked for as the least: a longer state is one too, and the definitions speak of all its bytes.
+
 // N numbers, from place `at` on.
 fn numbers_at<const N: usize>(state: &[u8], at: usize) -> [u32; N]
     requires { at + 4 * N ≤ length state.now }
@@ -166,7 +168,6 @@ pub fn bias_in(state: &[u8]) -> &[u8]
     &state[BIAS_AT..BIAS_AT + BIAS_SIZE]
 }
 
-// A state's length is asked for as the least: a longer state is one too, and the definitions speak of all its bytes.
 fn last_numbers_in(state: &[u8]) -> LastNumbers
     requires { state_size ≤ length state.now }
     ensures { result ≡ last_numbers_in state.now }

@@ -17,7 +17,7 @@ use calibrator::Calibrator;
 // The answer where no count fits.
 const NO_COUNT: u8 = 253;
 
-// 0, or the number of the refusal of an opening, and of a call on a state: C has numbers alone. These two and calibrator's `answer_number` are
+// 0, or the number of the refusal of an opening, and of a call on a state: C has numbers alone. These two and `answer_number` of `calibrator` are
 // three: each type of refusal has its own numbers, and a trait would need an impl with ghost members for each.
 fn opening_number<Opened: Drop>(answer: Result<Opened, table::Refusal>) -> u8
     ensures { result ≡ number_of (verdict_of answer) }

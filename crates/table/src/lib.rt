@@ -151,7 +151,7 @@ pub fn size_to(most: u32, z: i64) -> bool
     (-most..=most).contains(&z)
 }
 
-// w of age k, and v: two names of the law, one line each. An index is a plain number whose bound is asked, here and below, as in `instrument`.
+// w of age k, and v: two names of document 01, one line each. An index is a plain number whose bound is asked, here and below, as in `instrument`.
 pub fn count_weight(table: &TableBytes, k: usize) -> u8
     requires { k < ages }
     ensures { result ≡ (settings_of ages table.now).w k }
@@ -350,7 +350,7 @@ fn byte_sum(table: &TableBytes, at: usize, step: usize, n: usize) -> u32
     (0..n).map(|k| u32::from(table[at + step * k])).sum()
 }
 
-// The sums of the w, of the v and of the p of a target: names of the law, one line each over `byte_sum`.
+// The sums of the w, of the v and of the p of a target: names of document 01, one line each over `byte_sum`.
 pub fn sum_w(table: &TableBytes) -> u32
     ensures { result ≡ sum (settings_of ages table.now).w ages }
 {

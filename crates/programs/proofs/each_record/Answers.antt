@@ -1,4 +1,5 @@
--- `each_record` meets its contract: no turn yet, one more turn, and the last one.
+-- `each_record` meets its contract: before the first turn no record is read; each turn adds one whole record; and the turn that ends it is
+-- the last.
 use Rattle.std.proofs.Common.{arith, refl, ⊎_elim}
 use Rattle.programs.proofs.RunLaws.{ended_is_not_more, stopped_is_not_more, reached_none, reached_one_more, ran_to_an_end, ran_all_turns}
 use Rattle.programs.proofs.each_record.Goals as goal

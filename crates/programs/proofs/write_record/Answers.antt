@@ -1,4 +1,4 @@
--- `write_record` meets its contract, by the program.
+-- `write_record` meets its contract: the step of `lines` for each program is the case of `made_of` and `product_left` for it.
 use Rattle.std.proofs.Common.{rules}
 use Rattle.lines.specs.Steps.{listed_of, calibrated_of}
 use Rattle.programs.specs.Steps.{written_of, made_of, product_left}

@@ -1,4 +1,4 @@
--- No count is below offset, so the unsigned numbers are those of M, and the quotient fits.
+-- `measured_ratio` meets its contract: no count is below offset, so the unsigned numbers are those of M, and the quotient fits.
 use Rattle.std.proofs.Common.{◌≡◌, ℕ, ◌*◌, ◌-◌, ◌/◌, ◌≤◌, ◌<◌, pos, arith}
 use native.Mathlib.Nat.{mul-le-mul, div-le_self}
 use Rattle.integers.specs.Rounding.{floor}

@@ -1,4 +1,4 @@
--- m is small enough for the product to fit, and the rest is the definition.
+-- `on_line` meets its contract: m is small enough for the product to fit, and the rest is the definition.
 use Rattle.std.proofs.Common.{arith}
 use Rattle.std.proofs.lemmas.Int.{to_z-of_z}
 use Rattle.thermometer.specs.Steps.{on_line_through_zero}

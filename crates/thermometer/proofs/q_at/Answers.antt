@@ -1,4 +1,4 @@
--- t and t - 409,600 are small enough for their product to fit.
+-- `q_at` meets its contract: t and t - 409,600 are small enough for their product to fit.
 use Rattle.std.proofs.Common.{arith}
 use Rattle.std.proofs.lemmas.Int.{to_z-of_z}
 use Rattle.thermometer.specs.Rule.{q}

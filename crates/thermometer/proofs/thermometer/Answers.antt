@@ -1,4 +1,4 @@
--- Its tests are those of `reading`, in the same order: each return is what the tests that led there make of `reading`.
+-- `thermometer` meets its contract: its tests are those of `reading`, in the same order: each return is what the tests that led there make of `reading`.
 use Rattle.std.proofs.Common.{arith}
 use Rattle.std.proofs.lemmas.Int.{ints, to_z-of_z}
 use Rattle.thermometer.proofs.ReadingLaws.{reading_coefficient_outside, reading_pam_not_above, reading_count_below, reading_ratio_below, reading_ratio_above, reading_units}

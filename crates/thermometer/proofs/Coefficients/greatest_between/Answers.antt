@@ -1,4 +1,4 @@
--- F rises, so where the middle isn't reached, no later place is. At the end `past` is one after `reached`.
+-- `greatest_between` meets its contract: F rises, so where the middle isn't reached, no later place is. At the end `past` is one after `reached`.
 use Rattle.std.proofs.Common.{◌+◌, ◌-◌, ◌/◌, arith}
 use Rattle.std.proofs.lemmas.Int.{ints}
 use Rattle.integers.proofs.Machine.{reads_back}

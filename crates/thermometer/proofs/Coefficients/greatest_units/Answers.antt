@@ -1,4 +1,4 @@
--- The place after the guess is in the range, and F says which end of the halving it is; the other end is one that F confirms. So the ends
+-- `greatest_units` meets its contract: the place after the guess is in the range, and F says which end of the halving it is; the other end is one that F confirms. So the ends
 -- enclose the answer, whatever the guess.
 use Rattle.std.proofs.Common.{arith}
 use Rattle.std.proofs.lemmas.Int.{ints, to_z-of_z}

@@ -1,4 +1,4 @@
--- Past its first test m is small enough for the line and the chord; what the chord gives is in the range, so it has a place.
+-- `nearby` meets its contract: past its first test m is small enough for the line and the chord; what the chord gives is in the range, so it has a place.
 use Rattle.std.proofs.Common.{arith}
 use Rattle.std.proofs.lemmas.Int.{ints, to_z-of_z}
 use Rattle.thermometer.specs.Rule.{InRange}

@@ -1,4 +1,4 @@
--- F rises, so the chord does and may be divided by; m and F are small enough for each number to fit.
+-- `on_chord` meets its contract: F rises, so the chord does and may be divided by; m and F are small enough for each number to fit.
 use Rattle.std.proofs.Common.{arith}
 use Rattle.std.proofs.lemmas.Int.{to_z-of_z}
 use Rattle.thermometer.specs.Steps.{on_chord}

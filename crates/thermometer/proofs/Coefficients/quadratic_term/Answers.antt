@@ -1,4 +1,4 @@
--- q is the rule's, and its product with delta fits.
+-- `quadratic_term` meets its contract: q is the rule's, and its product with delta fits.
 use Rattle.std.proofs.Common.{arith}
 use Rattle.std.proofs.lemmas.Int.{to_z-of_z}
 use Rattle.thermometer.specs.Rule.{s1}

@@ -1,4 +1,4 @@
--- From 0 on it is 0 as s2 is; below 0 each number is the one that the rule names, and its bound makes it fit.
+-- `quartic_term` meets its contract: from 0 on it is 0 as s2 is; below 0 each number is the one that the rule names, and its bound makes it fit.
 use Rattle.std.proofs.Common.{arith}
 use Rattle.std.proofs.lemmas.Int.{ints, to_z-of_z}
 use Rattle.thermometer.specs.Rule.{y, w, h, s2}

@@ -1,4 +1,4 @@
--- The two terms are the rule's, and the bound of each number makes it fit.
+-- `ratio` meets its contract: the two terms are the rule's, and the bound of each number makes it fit.
 use Rattle.std.proofs.Common.{arith}
 use Rattle.std.proofs.lemmas.Int.{to_z-of_z}
 use Rattle.thermometer.specs.Rule.{F}
