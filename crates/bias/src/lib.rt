@@ -5,8 +5,8 @@
 ghost use Rattle.std.specs.Prelude.{◌≡◌, ◌+◌, ◌<◌, ◌≤◌, length, IfOk};
 ghost use Rattle.lists.specs.Build.{put};
 ghost use Rattle.instrument.specs.Instrument.{channels, positions};
-ghost use Rattle.table.specs.Opening.{verdict_of};
-ghost use Rattle.bias.specs.Bias.{part_size, bias_part, c0_in};
+ghost use Rattle.table.specs.Opening.{verdict_of, opened_by};
+ghost use Rattle.bias.specs.Bias.{bias_size, part_size, bias_part, c0_in};
 ghost use Rattle.bias.specs.Opening.{part_inside, bias_inside, bias_opening, AcceptedBias};
 ghost use Rattle.bias.specs.Pairs.{raised, pair_at, pairs_of};
 
@@ -106,6 +106,7 @@ fn values_inside(bytes: &BiasBytes) -> bool
 pub fn open(bytes: &[u8]) -> Result<Bias, Refusal>
     ensures verdict { verdict_of result ≡ bias_opening bytes.now }
     ensures bias { IfOk result (λ bias. bias.bytes ≡ bytes.now) }
+    ensures opened { IfOk result (λ bias. bias.bytes ≡ opened_by bias_size (bias_opening bytes.now) bytes.now) }
 {
     let bytes = table::with_layout(bytes, &LAYOUT)?;
     if !values_inside(bytes) {

@@ -19,7 +19,8 @@ fn remainder(a: i64, b: i64) -> i64
     requires { pos 0 <ℤ b }
     ensures { result ≡ a -ℤ b *ℤ floor a b }
 {
-    a.rem_euclid(b)
+    // The machine's remainder of the numbers that `div_euclid` divides, so that one division gives both; `rem_euclid` takes another.
+    if a < 0 { b - 1 - !a % b } else { a % b }
 }
 
 fn is_even(n: i64) -> bool

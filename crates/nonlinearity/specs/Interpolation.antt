@@ -13,8 +13,7 @@ on_line low high shelf = (low.tnl *ℤ (high.shelf -ℤ shelf) +ℤ high.tnl *�
 -- above pair j, which so many more follow: on the line up to the next one; beyond the last the end value is kept
 unfoldable pub above_pair : (ℕ → ShelfPair) → (j more : ℕ) → ℤ → Fraction
 above_pair pair j zero shelf = whole (pair j).tnl
-above_pair pair j (suc more) shelf =
-    cond (le_z shelf (pair (j + 1)).shelf) (on_line (pair j) (pair (j + 1)) shelf) (above_pair pair (j + 1) more shelf)
+above_pair pair j (suc more) shelf = cond (le_z shelf (pair (j + 1)).shelf) (on_line (pair j) (pair (j + 1)) shelf) (above_pair pair (j + 1) more shelf)
 
 -- the unrounded TNL; up to the first pair the end value is kept
 unfoldable pub unrounded_tnl : (ℕ → ShelfPair) → ℤ → Fraction

@@ -21,9 +21,7 @@ greater x y = cond (lt y x) x y
 
 -- with one temperature more
 unfoldable pub with_temperature : Summary → Float → Summary
-with_temperature s x =
-    let first = eqb s.count 0 in
-    record { count = s.count + 1; low = cond first x (lesser x s.low); high = cond first x (greater x s.high) }
+with_temperature s x = let first = eqb s.count 0 in record { count = s.count + 1; low = cond first x (lesser x s.low); high = cond first x (greater x s.high) }
 
 -- with one scene more
 unfoldable pub with_scene : Summary → Scene → Summary

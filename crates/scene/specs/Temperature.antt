@@ -17,8 +17,7 @@ X n d = r (pos 65536 *ℤ n) d
 
 -- T = Tc + r(N(Tw - Tc), D) + r(4X(65,536 - X) × TNL, 2^32)
 unfoldable pub temperature : (tc rise tnl D N : ℤ) → ℤ
-temperature tc rise tnl d n =
-    tc +ℤ r (n *ℤ rise) d +ℤ r (pos 4 *ℤ X n d *ℤ (pos 65536 -ℤ X n d) *ℤ tnl) (pos 4294967296)
+temperature tc rise tnl d n = tc +ℤ r (n *ℤ rise) d +ℤ r (pos 4 *ℤ X n d *ℤ (pos 65536 -ℤ X n d) *ℤ tnl) (pos 4294967296)
 
 -- the guard fails where T is below 1 or above 16,777,215
 abbrev pub guard_fails : ℤ → Bool

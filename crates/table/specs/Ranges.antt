@@ -40,8 +40,7 @@ channel_inside c =
 -- Request W4: shelf temperature -245,760..245,760, TNL -8,192..8,192; strictly rising: the first pair, or above the shelf temperature of
 -- the one before
 unfoldable pub pair_inside : (ℕ → ShelfPair) → ℕ → Bool
-pair_inside pair j =
-    all_hold (size_to 245760 (pair j).shelf ∷ size_to 8192 (pair j).tnl ∷ (eqb j 0 || lt_z (pair (j - 1)).shelf (pair j).shelf) ∷ [])
+pair_inside pair j = all_hold (size_to 245760 (pair j).shelf ∷ size_to 8192 (pair j).tnl ∷ (eqb j 0 || lt_z (pair (j - 1)).shelf (pair j).shelf) ∷ [])
 
 -- the sum of the p of a target
 abbrev pub weight_of : Settings → Target → ℕ

@@ -10,7 +10,7 @@ ghost use Rattle.fields.specs.Fields.{layout_size};
 ghost use Rattle.instrument.specs.Instrument.{thermometers, channels};
 ghost use Rattle.table.specs.Settings.{pairs, settings_of, corrections_of};
 ghost use Rattle.table.specs.Ranges.{size_to, leasts_inside, thermometer_limits_inside, thermometer_inside, channel_inside, pair_inside, sums_inside, values_inside, weight_of};
-ghost use Rattle.table.specs.Opening.{ages, verdict_of, opening_by, opening, AcceptedTable};
+ghost use Rattle.table.specs.Opening.{ages, verdict_of, opening_by, opening, AcceptedTable, table_by};
 
 use fields::{Field, HEAD};
 use instrument::{CHANNELS, KAV_THERMOMETERS, Side, THERMOMETERS, Target, WG_THERMOMETERS};
@@ -404,12 +404,14 @@ fn all_pairs_inside(table: &TableBytes) -> bool
 fn values_inside(table: &TableBytes) -> bool
     ensures { result ≡ values_inside (settings_of ages table.now) }
 {
-    leasts_inside(table)
-        && thermometer_limits_inside(table)
-        && thermometers_inside(table)
-        && channels_inside(table)
-        && all_pairs_inside(table)
-        && sums_inside(table)
+    lists::all_hold(&[
+        leasts_inside(table),
+        thermometer_limits_inside(table),
+        thermometers_inside(table),
+        channels_inside(table),
+        all_pairs_inside(table),
+        sums_inside(table),
+    ])
 }
 
 // The bytes as an array, where their length, tags and lengths are those of this layout: the first two tests of an opening.
@@ -434,6 +436,7 @@ pub fn with_layout<'a, const N: usize>(
 pub fn open(bytes: &[u8]) -> Result<Table, Refusal>
     ensures verdict { verdict_of result ≡ opening bytes.now }
     ensures table { IfOk result (λ table. table.bytes ≡ bytes.now) }
+    ensures opened { IfOk result (λ table. table.bytes ≡ table_by (opening bytes.now) bytes.now) }
 {
     let bytes = with_layout(bytes, &LAYOUT)?;
     if !values_inside(bytes) {

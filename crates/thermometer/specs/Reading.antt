@@ -35,8 +35,7 @@ abbrev pub resistance_inside : ℕ → Bool
 resistance_inside r = from_to 1000 4000000 r
 
 abbrev pub coefficients_inside : (r0 alpha delta beta : ℕ) → Bool
-coefficients_inside r0 alpha delta beta =
-    resistance_inside r0 && (from_to 3000000 5000000 alpha && (leb delta 2000000 && leb beta 500000))
+coefficients_inside r0 alpha delta beta = resistance_inside r0 && (from_to 3000000 5000000 alpha && (leb delta 2000000 && leb beta 500000))
 
 -- 8 if R_PAM or a coefficient is outside, 9 if PAM isn't above offset, 10 if the count is below offset, M below F(-245,760) or M above
 -- F(245,760)
