@@ -28,6 +28,9 @@ use table::TableBytes;
 // How many values a scan keeps of both sides.
 const SIDES: usize = 2 * CHANNELS;
 
+// How many fields `compared_layout` hands on in one call. No layout of compare/ has more.
+const AT_ONCE: usize = 8;
+
 pub fn compared_floor_div(a: i64, b: i64) -> i64
     requires { pos 0 <ℤ b }
     ensures { result ≡ floor a b }
@@ -78,17 +81,45 @@ pub fn compared_field(bytes: &[u8], at: usize, tag: u8, size: u16) -> usize
     fields::value_at(bytes, at, Field { tag, size }).len()
 }
 
-// Field by field: the C interface has the tags and the sizes as two rows, and a list of any length is built nowhere.
+// The fields of two rows.
+fn write_layout(out: &mut [Field], tags: &[u8], sizes: &[u16])
+    requires { (length tags.now ≡ length sizes.now) × (length out.old ≡ length tags.now) }
+    ensures { out.new ≡ layout_of tags.now sizes.now }
+{
+    for (i, field) in out.iter_mut().enumerate() {
+        *field = Field {
+            tag: tags[i],
+            size: sizes[i],
+        };
+    }
+}
+
+// The bytes that a layout takes.
+fn layout_size(layout: &[Field]) -> usize
+    requires { length layout.now ≤ 8 }
+    ensures { result ≡ layout_size layout.now }
+{
+    layout
+        .iter()
+        .map(|field| HEAD + usize::from(field.size))
+        .sum()
+}
+
+// The C interface has the tags and the sizes as two rows of any length, and there is no heap: `AT_ONCE` fields go on in one call.
 pub fn compared_layout(bytes: &[u8], tags: &[u8], sizes: &[u16]) -> bool
     requires { (length tags.now ≡ length sizes.now) × (layout_size (layout_of tags.now sizes.now) ≤ length bytes.now) }
     ensures { result ≡ layout_is_right bytes.now 0 (layout_of tags.now sizes.now) }
 {
+    let mut fields = [Field { tag: 0, size: 0 }; AT_ONCE];
     let mut at = 0;
-    for (&tag, &size) in tags.iter().zip(sizes) {
-        if !fields::layout_is_right(&bytes[at..], &[Field { tag, size }]) {
+    for (some_tags, some_sizes) in tags.chunks(AT_ONCE).zip(sizes.chunks(AT_ONCE)) {
+        let n = some_tags.len();
+        write_layout(&mut fields[..n], some_tags, some_sizes);
+        let layout = &fields[..n];
+        if !fields::layout_is_right(&bytes[at..], layout) {
             return false;
         }
-        at += HEAD + usize::from(size);
+        at += layout_size(layout);
     }
     true
 }

@@ -1,11 +1,13 @@
--- A layout is right exactly where its first field is right and the rest is, so where each of its fields is; the layout from its field k on.
+-- A layout is right exactly where its first field is right and the rest is, so where each of its fields is, and two in a row where both are;
+-- the layout from its field k on.
 use Prim.Native.Nat.{ℕ, zero, suc, ◌+◌, ◌<◌, ◌≤◌}
-use native.Mathlib.Nat.{add-zero, zero-add}
+use native.Mathlib.Nat.{add-zero, zero-add, add_assoc}
 use native.Mathlib.Omega.{arith}
-use mathlib.Core.Path.{◌≡◌, refl, ◌∙◌}
-use mathlib.Core.List.{List, [], ◌∷◌}
-use mathlib.Core.Bool.{true, and-eq-true_iff}
-use lib.ListN.{length, get_or, take}
+use mathlib.Core.Path.{◌≡◌, refl, sym, ap, ◌∙◌}
+use mathlib.Core.List.{List, [], ◌∷◌, ◌++◌}
+use mathlib.Core.Bool.{true, ◌&&◌, and-eq-true_iff, and_assoc}
+use lib.ListN.{length, get_or, take, drop}
+use lib.Seq.{get_or-drop}
 use Rattle.fields.specs.declared.Field.{Field}
 use Rattle.fields.specs.Fields.{field, head_size, field_is_right, field_value, layout_size, layout_is_right, field_at, value_in}
 use Rattle.fields.proofs.FieldLaws.{value_when_right}
@@ -50,6 +52,34 @@ right_when_each s at (f ∷ fs) each =
     (λ k below.
     let place : at + head_size + f.size + field_start fs k ≡ at + field_start (f ∷ fs) (suc k) = omega arith in
     rw place (each (suc k) (omega arith)))
+
+-- of two layouts in a row: the bytes that they take, and whether they are right
+pub size_of_two : (fs gs : List Field) → layout_size (fs ++ gs) ≡ layout_size fs + layout_size gs
+size_of_two [] gs = sym (zero-add (layout_size gs))
+size_of_two (f ∷ fs) gs = omega (arith, size_of_two fs gs)
+
+pub right_of_two : (s : List ℕ) (at : ℕ) (fs gs : List Field)
+    → layout_is_right s at (fs ++ gs) ≡ (layout_is_right s at fs && layout_is_right s (at + layout_size fs) gs)
+unfolding layout_is_right
+right_of_two s at [] gs = rw (add-zero at) refl
+right_of_two s at (f ∷ fs) gs =
+    let place : at + (head_size + f.size + layout_size fs) ≡ at + head_size + f.size + layout_size fs = omega arith in
+    rw place
+    (ap (λ rest. field_is_right s at f && rest) (right_of_two s (at + head_size + f.size) fs gs)
+    ∙ sym (and_assoc (field_is_right s at f) (layout_is_right s (at + head_size + f.size) fs) _))
+
+-- a field, and a layout, read in the bytes from n on
+pub field_behind : (s : List ℕ) (n at : ℕ) (f : Field) → field_is_right (drop n s) at f ≡ field_is_right s (n + at) f
+unfolding field_is_right
+field_behind s n at f =
+    rw (get_or-drop n s at 0, get_or-drop n s (at + 1) 0, get_or-drop n s (at + 1 + 1) 0, add_assoc n at 1, add_assoc n (at + 1) 1)
+
+pub layout_behind : (s : List ℕ) (n at : ℕ) (fs : List Field) → layout_is_right (drop n s) at fs ≡ layout_is_right s (n + at) fs
+unfolding layout_is_right
+layout_behind s n at [] = refl
+layout_behind s n at (f ∷ fs) =
+    let place : n + (at + head_size + f.size) ≡ n + at + head_size + f.size = omega arith in
+    rw (field_behind s n at f, layout_behind s n (at + head_size + f.size) fs, place)
 
 -- field k ends inside its layout
 pub field_inside : (fs : List Field) (k : ℕ) → k < length fs → field_start fs k + head_size + (field_at fs k).size ≤ layout_size fs

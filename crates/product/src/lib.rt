@@ -207,11 +207,14 @@ fn flag_byte(channel: Channel) -> u8
     }
 }
 
+// A loop: an array's `map` keeps an option of each element, for which C's memset is needed.
 fn write_flags(out: &mut [u8], states: [Channel; CHANNELS])
     requires { length out.old ≡ channels }
     ensures { out.new ≡ flag_bytes states }
 {
-    out.copy_from_slice(&states.map(|channel| flag_byte(channel)));
+    for (c, &channel) in states.iter().enumerate() {
+        out[c] = flag_byte(channel);
+    }
 }
 
 fn total_count(all: [Summary; CHANNELS]) -> u32
