@@ -22,22 +22,33 @@ const FLAGS_END: usize = FLAGS_AT + CHANNELS;
 pub const LONGEST: usize = 44 + CHANNELS;
 
 // A line, or the part of it that is written so far. No `Display`: memory has a fixed size, and `Display` ensures no bytes that a proof can use.
-// And no vector of std: its memory grows on the heap. Proofs see this one as the list of its bytes too.
-#[derive(Drop)]
+// And no vector of std: its memory grows on the heap. Proofs see this one as the list of its bytes too. Behind them stand zeros, so that
+// the list has all that a line has, as `Copy` asks.
+#[derive(Clone, Copy)]
 pub struct Line {
     bytes: [u8; LONGEST],
     size: usize,
 }
 
 impl Model for Line {
-    ghost use Rattle.std.specs.Prelude.{ℕ, List, ◌≤◌, take};
+    ghost use Rattle.std.specs.Prelude.{ℕ, ◌-◌, ◌≤◌, ◌≡◌, List, ◌++◌, length, take, drop, replicate};
+    ghost use Rattle.std.proofs.Common.{arith, sym, ap, ◌∙◌, take-append-drop, length-take-le};
     ghost use Rattle.lines.specs.declared.TheConstants.{LONGEST};
 
     ghost Value = { List ℕ };
 
     ghost view = { λ l. take l.size l.bytes };
 
-    ghost invariant = { λ l. l.size ≤ LONGEST };
+    ghost invariant = { λ l. (l.size ≤ LONGEST) × (length l.bytes ≡ LONGEST) × (drop l.size l.bytes ≡ replicate (LONGEST - l.size) 0) };
+
+    ghost inverse = { λ text. record { bytes = text ++ replicate (LONGEST - length text) 0; size = length text } };
+
+    ghost inverse_ok = { λ l h i.
+        let long = length-take-le l.size l.bytes (omega (arith, h.0, h.1)) in
+        let rest = ap (λ n. replicate (LONGEST - n) 0) long ∙ sym h.2 in record {
+          bytes = (ap (λ zeros. take l.size l.bytes ++ zeros) rest ∙ take-append-drop l.size l.bytes) i;
+          size = long i;
+        } };
 }
 
 // Why a program ends before its input does.
@@ -48,14 +59,14 @@ pub enum Stop {
 }
 
 // What is written of a record: the product, which stands in the buffer that was lent, or a line.
-#[derive(Drop)]
+#[derive(Clone, Copy)]
 pub enum Written {
     Product,
     Line(Line),
 }
 
 // What is made of a record: the calibrator that is handed back, and what is written.
-#[derive(Drop)]
+#[derive(Clone, Copy)]
 pub struct Made {
     pub calibrator: Calibrator,
     pub written: Written,
