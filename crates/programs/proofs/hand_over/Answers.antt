@@ -9,4 +9,4 @@ write_to-requires c = product_due [] (rw c.in-Product.is at c.requires) refl
 pub write_to-taken-requires : goal.write_to-taken-requires
 write_to-taken-requires c =
     let together = rw c.in-Line.is at c.requires in
-    line_due [] (rw c.as_bytes.ensures together) c.lines_to-to.ensures
+    line_due [] (rw (← c.as_bytes.ensures) at together) c.lines_to-to.ensures
