@@ -99,10 +99,10 @@ module _ {k : Constants} (h : ConstantsRange k) (wanted c : ℕ) (only : (count 
   abbrev fit : ℕ → Bool
   fit count = delivered_with wanted (before_bias k count)
 
-  candidate_found : c ≤ 65535 → wanted ≤ 4294967295 → placed k c ≡ pos wanted → found_count c ≡ count_with k wanted
+  pub candidate_found : c ≤ 65535 → wanted ≤ 4294967295 → placed k c ≡ pos wanted → found_count c ≡ count_with k wanted
   candidate_found inside small is = sym (only_one_fits fit 65536 c (omega arith) (placed_fits h c wanted small is) (λ count below. only count (omega arith)))
 
-  candidate_fails : (placed k c ≡ pos wanted → ⊥) → no_count ≡ count_with k wanted
+  pub candidate_fails : (placed k c ≡ pos wanted → ⊥) → no_count ≡ count_with k wanted
   candidate_fails other = sym (none_fits fit 65536 (λ count below. by_test count (omega arith) (fit count) refl))
     where
       by_test : (count : ℕ) → count ≤ 65535 → (b : Bool) → fit count ≡ b → b ≡ false
