@@ -1,15 +1,12 @@
--- The floor of a / b, b above 0, is the one whole number q with b q ≤ a < b q + b; and how the machine's division, toward 0, gives it.
-use mathlib.Core.Path.{◌≡◌, refl, sym, subst, ◌∙◌}
+-- The floor of a / b, b above 0, is the one whole number q with b q ≤ a < b q + b; Euclid's quotient is it.
+use mathlib.Core.Path.{◌≡◌, refl, sym, subst}
 use mathlib.Core.List.{[], ◌∷◌}
-use mathlib.Core.Bool.{true, false}
-use Prim.Native.Nat.{ℕ, suc, ◌-◌, ◌*◌, ◌/◌, ◌%◌, ◌<◌}
+use Prim.Native.Nat.{ℕ, suc, ◌*◌, ◌/◌, ◌<◌}
 use native.Mathlib.Omega.{arith}
 use native.Mathlib.Nat.{div-add-mod, mod-lt}
 use lib.IntN.{ℤ, pos, negsuc, neg_ℤ, ◌+ℤ◌, ◌-ℤ◌, ◌*ℤ◌}
-use lib.Signed.{◌≤ℤ◌, ◌<ℤ◌, rem_z, lt_z}
-use Rattle.std.specs.Prelude.{unsigned_abs}
-use Rattle.std.specs.Int.{int_div_euclid, int_rem_euclid}
-use Rattle.std.proofs.lemmas.Int.{ints}
+use lib.Signed.{◌≤ℤ◌, ◌<ℤ◌}
+use Rattle.std.specs.Int.{int_div_euclid}
 use Rattle.integers.specs.Rounding.{floor}
 use Rattle.integers.specs.Bounds.{Bounded}
 use Rattle.integers.proofs.Ring.{◌:+◌, ◌:-◌, ◌:*◌, opp, #, v0, v1, v2, v3, v4, v5}
@@ -60,31 +57,12 @@ pub floor_rise : (n from to : ℤ) {b : ℤ} → pos 0 <ℤ b → to ≤ℤ (fro
 floor_rise n from to {b} above step =
     (le_by (from ∷ to ∷ b ∷ n ∷ (floor from b) ∷ (floor to b) ∷ []) ((# 0 :< v2) ∷ (v1 :≤ v0 :+ v3 :* v2) ∷ (v0 :< v2 :* v4 :+ v2) ∷ (v2 :* v5 :≤ v1) ∷ []) v5 (v4 :+ v3) (hyp 0 ⊕ hyp 2 ⊕ hyp 3 ⊕ hyp 4 ⊕ hyp 0 ⊗ hyp 1) tt above step (floor_high from above) (floor_low to above))
 
--- ---- Euclid's division, whose remainder is not negative
-natural_rest : (a : ℤ) (m : ℕ) → 0 < m → int_rem_euclid a (pos m) ≡ a -ℤ pos m *ℤ floor a (pos m)
-unfolding floor
-natural_rest (pos n) m h = omega (arith, ints, div-add-mod n m)
-natural_rest (negsuc n) m h = omega (arith, ints, div-add-mod n m, mod-lt n h)
-
+-- ---- Euclid's division
 pub quotient_is_floor : (a : ℤ) {b : ℤ} → pos 0 <ℤ b → int_div_euclid a b ≡ floor a b
 unfolding floor
 quotient_is_floor (pos n) {b = pos m} p = refl
 quotient_is_floor (negsuc n) {b = pos m} p = refl
 quotient_is_floor a {b = negsuc m} p = absurd p.lt
-
--- ---- and the machine's remainder, which has a's sign: of a, or of -1 - a where a is negative
-negative_rest : (n m : ℕ) → 0 < m → pos m -ℤ pos 1 -ℤ pos (n % m) ≡ negsuc n -ℤ pos m *ℤ floor (negsuc n) (pos m)
-negative_rest n m h = let split : pos m -ℤ pos 1 -ℤ pos (n % m) ≡ pos (m - 1 - n % m) = omega (arith, ints, mod-lt n h) in split ∙ natural_rest (negsuc n) m h
-
-pub rest_of_negative : (a : ℤ) {b : ℤ} → pos 0 <ℤ b → lt_z a (pos 0) ≡ true → b -ℤ pos 1 -ℤ rem_z (pos (unsigned_abs a - 1)) b ≡ a -ℤ b *ℤ floor a b
-rest_of_negative (negsuc n) {b = pos m} p negative = let one_less : suc n - 1 ≡ n = omega arith in rw one_less (negative_rest n m (omega (arith, ints)))
-rest_of_negative (pos n) p negative = absurd (omega (arith, ints))
-rest_of_negative (negsuc n) {b = negsuc m} p negative = absurd p.lt
-
-pub rest_of_natural : (a : ℤ) {b : ℤ} → pos 0 <ℤ b → lt_z a (pos 0) ≡ false → rem_z a b ≡ a -ℤ b *ℤ floor a b
-rest_of_natural (pos n) {b = pos m} p natural = natural_rest (pos n) m (omega (arith, ints))
-rest_of_natural (negsuc n) p natural = absurd (omega (arith, ints))
-rest_of_natural (pos n) {b = negsuc m} p natural = absurd p.lt
 
 module _ (a : ℤ) {b : ℤ} (p : pos 0 <ℤ b) where
   -- what the floor leaves of a is from 0 to b - 1

@@ -14,13 +14,13 @@ pub fn floor_div(a: i64, b: i64) -> i64
     a.div_euclid(b)
 }
 
-// What the floor of a / b leaves of a: from 0 to b - 1.
-fn remainder(a: i64, b: i64) -> i64
-    requires { pos 0 <ℤ b }
+// What the floor of a / b leaves of a: from 0 to b - 1. The floor is at hand, so that no second division is needed; b times it may be below
+// what i64 holds, and what is left of a is not.
+fn remainder(a: i64, b: i64, low: i64) -> i64
+    requires { (pos 0 <ℤ b) × (low ≡ floor a b) }
     ensures { result ≡ a -ℤ b *ℤ floor a b }
 {
-    // The machine's remainder of the numbers that `div_euclid` divides, so that one division gives both; `rem_euclid` takes another.
-    if a < 0 { b - 1 - !a % b } else { a % b }
+    a.wrapping_sub(b.wrapping_mul(low))
 }
 
 fn is_even(n: i64) -> bool
@@ -36,7 +36,7 @@ pub fn round(a: i64, b: i64) -> i64
     ensures { result ≡ r a b }
 {
     let low = floor_div(a, b);
-    let past = remainder(a, b);
+    let past = remainder(a, b, low);
     let short = b - past;
     if past < short {
         return low;
@@ -57,7 +57,7 @@ pub fn round_small(a: i64, b: i64, twice: i64) -> i64
 {
     let sum = 2 * a + b;
     let up = floor_div(sum, twice);
-    if 0 < remainder(sum, twice) {
+    if 0 < remainder(sum, twice, up) {
         return up;
     }
     if is_even(up) {

@@ -1,4 +1,4 @@
--- Laws of `put`: what it leaves and what it holds, and what comes to a put: stores in a row, a part that was lent, two puts in a row.
+-- Laws of `put`: what it leaves and what it holds, and what comes to a put: a part that was lent, two puts in a row.
 use Prim.Native.Nat.{ℕ, ◌+◌, ◌-◌, ◌<◌, ◌≤◌}
 use native.Mathlib.Nat.{add_assoc, add-sub_cancel_left, le_refl}
 use native.Mathlib.Omega.{arith}
