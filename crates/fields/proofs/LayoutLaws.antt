@@ -1,5 +1,5 @@
 -- A layout is right exactly where its first field is right and the rest is, so where each of its fields is, and two in a row where both are;
--- the layout from its field k on.
+-- where field k of a layout stands, and the layout behind n bytes.
 use Prim.Native.Nat.{ℕ, zero, suc, ◌+◌, ◌<◌, ◌≤◌}
 use native.Mathlib.Nat.{add-zero, zero-add, add_assoc}
 use native.Mathlib.Omega.{arith}
