@@ -2,16 +2,19 @@
 
 #![tactic(auto)]
 
-ghost use Rattle.std.specs.Prelude.{◌≡◌, ◌≤◌, length};
+ghost use Rattle.std.specs.Prelude.{◌≡◌, true, ◌≤◌, length};
 ghost use Rattle.lists.specs.Tests.{number_of};
+ghost use Rattle.window.specs.Ranges.{WindowRange};
+ghost use Rattle.lastscan.specs.Ranges.{LastRange};
 ghost use Rattle.calibrator.specs.Feeding.{step};
 ghost use Rattle.calibrator.specs.Steps.{calibrator_of};
-ghost use Rattle.state.specs.State.{state_size};
+ghost use Rattle.state.specs.State.{state_size, saved, window_in, last_in, is_state};
 ghost use Rattle.live.specs.Calls.{fresh_verdict, fresh_by, left_by, fed_state, CallLeaves, found_in};
 ghost use Rattle.live.specs.Answers.{answer_number, refusal_number, found_of};
 
 use bias::{PAIR_NUMBERS, Pairs};
-use state::{Parts, STATE_SIZE};
+use calibrator::FedWindow;
+use state::{Files, Parts, STATE_SIZE};
 
 // Why a call is refused: the bytes are no state, or none has room; or as an opening, a feed or a look-up is refused.
 #[derive(Clone, Copy, Debug, PartialEq, Eq)]
@@ -71,40 +74,54 @@ pub fn fresh(table: &[u8], bias: &[u8], state: &mut [u8]) -> Result<(), Refusal>
     ensures answer { answer_number result ≡ number_of (fresh_verdict table.now bias.now state.old) }
     ensures state { state.new ≡ fresh_by (fresh_verdict table.now bias.now state.old) table.now bias.now state.old }
 {
-    let parts = Parts {
-        table: table::open(table)?,
-        bias: bias::open(bias)?,
-        window: window::empty(),
-        last: None,
-    };
+    table::open(table)?;
+    bias::open(bias)?;
     if state.len() < STATE_SIZE {
         return Err(Refusal::NoState);
     }
+    let parts = Parts {
+        table,
+        bias,
+        window: &window::empty(),
+        last: &None,
+    };
     state::save(state, &parts);
     Ok(())
 }
 
-// Feeds a scan to the calibrator whose parts were read from the state, and saves what an accepted scan makes of it.
-fn feed_read(
-    parts: &mut Parts,
-    state: &mut [u8],
-    scan: &[u8],
-    buffer: &mut [u8],
-) -> Result<(), Refusal>
-    requires { state_size ≤ length state.old }
-    ensures { CallLeaves (left_by state.old (step (calibrator_of parts.old.table parts.old.bias parts.old.window parts.old.last) (record { scan = scan.now; buffer = buffer.old }))) (answer_number result) state.new buffer.new }
+// Saves what an accepted scan makes of the calibrator of these files. Not inlined: the window and the last scan, which are lent on, would stand
+// in the frame of a whole feed a second time.
+#[inline(never)]
+fn save_fed(files: &Files, fed: FedWindow, state: &mut [u8])
+    requires room { state_size ≤ length state.old }
+    requires ranges { WindowRange fed.window × LastRange fed.last }
+    ensures { state.new ≡ saved state.old (calibrator_of files.now.table files.now.bias fed.window fed.last) }
+{
+    let parts = Parts {
+        table: files.table.bytes(),
+        bias: files.bias.bytes(),
+        window: &fed.window,
+        last: &fed.last,
+    };
+    state::save(state, &parts);
+}
+
+// Feeds a scan to the calibrator of a state whose files were read, and saves what an accepted scan makes of it.
+fn feed_read(files: &Files, state: &mut [u8], scan: &[u8], buffer: &mut [u8]) -> Result<(), Refusal>
+    requires { is_state state.old ≡ true }
+    ensures { CallLeaves (left_by state.old (step (calibrator_of files.now.table files.now.bias (window_in state.old) (last_in state.old)) (record { scan = scan.now; buffer = buffer.old }))) (answer_number result) state.new buffer.new }
 {
     let mut numbers = [0; PAIR_NUMBERS];
-    bias::put_pairs(&mut numbers, parts.bias.bytes());
+    bias::put_pairs(&mut numbers, files.bias.bytes());
     let pairs = Pairs {
-        bias: &parts.bias,
+        bias: &files.bias,
         numbers: &numbers,
     };
-    let fed = calibrator::feed_with(&parts.table, &pairs, parts.window, parts.last, scan, buffer);
+    let window = state::window_in(state);
+    let last = state::last_in(state);
+    let fed = calibrator::feed_with(&files.table, &pairs, window, last, scan, buffer);
     fed.answer?;
-    parts.window = fed.window;
-    parts.last = fed.last;
-    state::save(state, parts);
+    save_fed(files, fed, state);
     Ok(())
 }
 
@@ -112,10 +129,10 @@ fn feed_read(
 pub fn feed(state: &mut [u8], scan: &[u8], buffer: &mut [u8]) -> Result<(), Refusal>
     ensures { CallLeaves (fed_state state.old (record { scan = scan.now; buffer = buffer.old })) (answer_number result) state.new buffer.new }
 {
-    match &mut state::read(state) {
-        Some(parts) => feed_read(parts, state, scan, buffer),
-        None => Err(Refusal::NoState),
-    }
+    let Some(files) = state::read(state) else {
+        return Err(Refusal::NoState);
+    };
+    feed_read(&files, state, scan, buffer)
 }
 
 // The count behind a temperature, by the calibrator of a state; none where no count fits.

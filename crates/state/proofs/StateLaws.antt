@@ -157,6 +157,9 @@ module _ (state : List ℕ) where
   pub state_is_long : is_state state ≡ true → state_size ≤ length state
   state_is_long right = leb-true state_size (length state) (each_of_all tests (sym is_state_by_tests ∙ right) 0)
 
+  pub state_keeps_window : is_state state ≡ true → window_inside (window_in state) ≡ true
+  state_keeps_window right = each_of_all tests (sym is_state_by_tests ∙ right) 4
+
   pub state_keeps_last : is_state state ≡ true → last_inside (is_some (window_in state).last) (last_numbers_in state) ≡ true
   state_keeps_last right = each_of_all tests (sym is_state_by_tests ∙ right) 5
 

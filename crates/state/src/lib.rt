@@ -6,20 +6,22 @@ ghost use Rattle.std.specs.Prelude.{◌≡◌, true, false, ◌||◌, ◌&&◌, 
 ghost use Rattle.lists.specs.Build.{put};
 ghost use Rattle.fields.specs.Fields.{head_size, field_bytes};
 ghost use Rattle.thermometer.specs.Reading.{from_to};
+ghost use Rattle.table.specs.Opening.{AcceptedTable};
+ghost use Rattle.bias.specs.Opening.{AcceptedBias};
 ghost use Rattle.window.specs.Ranges.{WindowRange};
 ghost use Rattle.window.specs.Props.{window_range_prop};
-ghost use Rattle.calibrator.specs.Steps.{calibrator_of};
+ghost use Rattle.calibrator.specs.Steps.{calibrator_of, calibrator_with};
 ghost use Rattle.std.proofs.Props.{props};
 ghost use Rattle.lastscan.specs.Ranges.{LastRange};
 ghost use Rattle.lastscan.specs.Numbers.{last_inside};
 ghost use Rattle.state.specs.State.{state_size, saved, number_bytes, front_bytes, last_bytes, numbers_at, table_in, bias_in, window_in, last_numbers_in, last_in, calibrator_in, ages_reached, numbers_inside, number_is_right, window_inside, front_is_right, is_state};
 ghost use Rattle.state.specs.Steps.{values_inside, window_start, window_end, window_bytes};
 
-use bias::{BIAS_SIZE, Bias};
+use bias::{BIAS_SIZE, Bias, BiasBytes};
 use fields::{Field, HEAD};
 use instrument::{CHANNELS, THERMOMETERS};
 use lastscan::{LAST_NUMBERS, LastNumbers, LastScan};
-use table::{AGES, TABLE_SIZE, Table};
+use table::{AGES, TABLE_SIZE, Table, TableBytes};
 use window::{COUNTS_KEPT, KELVINS_KEPT, Window};
 
 // `SNDR` in ASCII, and the version of the layout and of the rules.
@@ -82,15 +84,24 @@ const MOST_KELVIN: u32 = 1_118_822 + 245_760;
 
 const MOST_KEPT: u32 = 12 * 65_535 + 1;
 
-// The parts of a calibrator, as they are read from a state and saved in one.
+// The table and the bias file of a state, opened.
 #[derive(Clone, Copy)]
-pub struct Parts {
+pub struct Files {
     pub table: Table,
     pub bias: Bias,
-    pub window: Window,
-    pub last: LastScan,
-    ghost window_range: { WindowRange window } by { window_range_prop window },
-    ghost last_range: { LastRange last } by { Prim.hlevel props },
+}
+
+// The parts of a calibrator, lent, as they are saved in a state.
+#[derive(Clone, Copy)]
+pub struct Parts<'a> {
+    pub table: &'a [u8],
+    pub bias: &'a [u8],
+    pub window: &'a Window,
+    pub last: &'a LastScan,
+    ghost accepted_table: { AcceptedTable table.now },
+    ghost accepted_bias: { AcceptedBias bias.now },
+    ghost window_range: { WindowRange window.now } by { window_range_prop window.now },
+    ghost last_range: { LastRange last.now } by { Prim.hlevel props },
 }
 
 // ---- writing
@@ -154,18 +165,18 @@ fn numbers_at<const N: usize>(state: &[u8], at: usize) -> [u32; N]
 }
 
 // The table and the bias file of a state: parts of the caller's bytes, not copied.
-pub fn table_in(state: &[u8]) -> &[u8]
+pub fn table_in(state: &[u8]) -> &TableBytes
     requires { state_size ≤ length state.now }
     ensures { result.now ≡ table_in state.now }
 {
-    &state[TABLE_AT..TABLE_AT + TABLE_SIZE]
+    <&TableBytes>::try_from(&state[TABLE_AT..TABLE_AT + TABLE_SIZE]).unwrap()
 }
 
-pub fn bias_in(state: &[u8]) -> &[u8]
+pub fn bias_in(state: &[u8]) -> &BiasBytes
     requires { state_size ≤ length state.now }
     ensures { result.now ≡ bias_in state.now }
 {
-    &state[BIAS_AT..BIAS_AT + BIAS_SIZE]
+    <&BiasBytes>::try_from(&state[BIAS_AT..BIAS_AT + BIAS_SIZE]).unwrap()
 }
 
 fn last_numbers_in(state: &[u8]) -> LastNumbers
@@ -175,6 +186,8 @@ fn last_numbers_in(state: &[u8]) -> LastNumbers
     numbers_at(state, KEPT_AT)
 }
 
+// Not inlined, as `last_in`: the arrays that it fills would stand in the frame of a whole feed.
+#[inline(never)]
 #[tactic(auto, unfolding(crate::specs::State::window_in))]
 pub fn window_in(state: &[u8]) -> Window
     requires { state_size ≤ length state.now }
@@ -189,6 +202,7 @@ pub fn window_in(state: &[u8]) -> Window
 }
 
 // What is kept of the last accepted scan.
+#[inline(never)]
 pub fn last_in(state: &[u8]) -> LastScan
     requires { (state_size ≤ length state.now) × (last_inside (is_some (window_in state.now).last) (last_numbers_in state.now) ≡ true) }
     ensures { result ≡ last_in state.now }
@@ -282,9 +296,9 @@ pub fn is_state(state: &[u8]) -> bool
     values_inside(state)
 }
 
-// The calibrator whose state these bytes are, in parts, by the same tests: its table and its bias file are opened once.
-pub fn read(state: &[u8]) -> Option<Parts>
-    ensures { MatchOption result (is_state state.now ≡ false) (λ p. (is_state state.now ≡ true) × (calibrator_of p.table p.bias p.window p.last ≡ calibrator_in state.now)) }
+// The table and the bias file of these bytes, by the same tests, each opened once; none where they are no state.
+pub fn read(state: &[u8]) -> Option<Files>
+    ensures { MatchOption result (is_state state.now ≡ false) (λ f. (is_state state.now ≡ true) × (calibrator_of f.table f.bias (window_in state.now) (last_in state.now) ≡ calibrator_in state.now)) }
 {
     if state.len() < STATE_SIZE {
         return None;
@@ -297,12 +311,7 @@ pub fn read(state: &[u8]) -> Option<Parts>
     if !values_inside(state) {
         return None;
     }
-    Some(Parts {
-        table,
-        bias,
-        window: window_in(state),
-        last: last_in(state),
-    })
+    Some(Files { table, bias })
 }
 
 // ---- a whole state
@@ -320,18 +329,18 @@ fn put_window(out: &mut [u8], window: &Window)
 }
 
 // The calibrator of these parts, in the place of the state.
-pub fn save(state: &mut [u8], parts: &Parts)
+pub fn save(state: &mut [u8], parts: &Parts<'_>)
     requires { state_size ≤ length state.old }
-    ensures { state.new ≡ saved state.old (calibrator_of parts.now.table parts.now.bias parts.now.window parts.now.last) }
+    ensures { state.new ≡ saved state.old (calibrator_with parts.now.table.now parts.now.bias.now parts.now.window.now parts.now.last.now) }
 {
     put_field(state, 0, LAYOUT[0], &front_bytes());
-    put_field(state, TABLE_AT - HEAD, LAYOUT[1], parts.table.bytes());
-    put_window(state, &parts.window);
-    put_field(state, BIAS_AT - HEAD, LAYOUT[6], parts.bias.bytes());
+    put_field(state, TABLE_AT - HEAD, LAYOUT[1], parts.table);
+    put_window(state, parts.window);
+    put_field(state, BIAS_AT - HEAD, LAYOUT[6], parts.bias);
     put_number_field(
         state,
         KEPT_AT - HEAD,
         LAYOUT[7],
-        &lastscan::numbers_of(parts.last),
+        &lastscan::numbers_of(*parts.last),
     );
 }

@@ -1,5 +1,5 @@
 -- `fresh` meets its contract: where neither file is refused and the state has room, the fresh calibrator is saved.
-use Rattle.std.proofs.Common.{ℕ, None, List, sym, ap, ap₂, ◌∙◌}
+use Rattle.std.proofs.Common.{None, sym, ap, ◌∙◌}
 use Rattle.bias.proofs.OpeningLaws.{both_pass}
 use Rattle.window.specs.declared.Window.{Window}
 use Rattle.window.proofs.AgeLaws.{empty_window_range}
@@ -10,7 +10,12 @@ use Rattle.live.proofs.CallLaws.{fresh_saved}
 use Rattle.live.proofs.fresh.Goals as goal
 
 pub invariant_of-parts : goal.invariant_of-parts
-invariant_of-parts c = record { window_range = rw c.empty.ensures empty_window_range; last_range = tt }
+invariant_of-parts c = record {
+  accepted_table = record { accepted = sym c.in_ok-open.ensures.verdict };
+  accepted_bias = record { accepted = sym c.in_ok-open-2.ensures.verdict; bytes = λ k. (c.type_inv.bias k).fits };
+  window_range = rw c.empty.ensures empty_window_range;
+  last_range = tt;
+}
 
 pub returns-clause-state : goal.returns-clause-state
 unfolding fresh_of
@@ -18,6 +23,4 @@ returns-clause-state c =
     let a = c.args in
     let state = a.state.now in
     fresh_saved a.table.now a.bias.now state (both_pass _ _ (sym c.in_ok-open.ensures.verdict) (sym c.in_ok-open-2.ensures.verdict)) c.if-state-lt-STATE_SIZE.false
-    (c.save.ensures
-    ∙ ap₂ (λ (t b : List ℕ). saved state (calibrator_with t b c.empty.result None)) c.in_ok-open.ensures.table c.in_ok-open-2.ensures.bias
-    ∙ ap (λ (w : Window). saved state (calibrator_with a.table.now a.bias.now w None)) c.empty.ensures)
+    (c.save.ensures ∙ ap (λ (w : Window). saved state (calibrator_with a.table.now a.bias.now w None)) c.empty.ensures)
