@@ -32,7 +32,7 @@ pub struct Line {
 
 impl Model for Line {
     ghost use Rattle.std.specs.Prelude.{ℕ, ◌-◌, ◌≤◌, ◌≡◌, List, ◌++◌, length, take, drop, replicate};
-    ghost use Rattle.std.proofs.Common.{arith, sym, ap, ◌∙◌, take-append-drop, length-take-le};
+    ghost use Rattle.std.proofs.Common.{subst, sym, ap, ◌∙◌, take-append-drop, length-take-le};
     ghost use Rattle.lines.specs.declared.TheConstants.{LONGEST};
 
     ghost Value = { List ℕ };
@@ -44,7 +44,7 @@ impl Model for Line {
     ghost inverse = { λ text. record { bytes = text ++ replicate (LONGEST - length text) 0; size = length text } };
 
     ghost inverse_ok = { λ l h i.
-        let long = length-take-le l.size l.bytes (omega (arith, h.0, h.1)) in
+        let long = length-take-le l.size l.bytes (subst (λ n. l.size ≤ n) (sym h.1) h.0) in
         let rest = ap (λ n. replicate (LONGEST - n) 0) long ∙ sym h.2 in record {
           bytes = (ap (λ zeros. take l.size l.bytes ++ zeros) rest ∙ take-append-drop l.size l.bytes) i;
           size = long i;
